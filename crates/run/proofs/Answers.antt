@@ -1,0 +1,60 @@
+-- The laws of answers and of lent buffers, over any payload.
+-- Assumes nothing.
+use mathlib.Core.Path.{_≡_, refl, sym, _∙_, ap}
+use mathlib.Core.List.{List, [], _∷_, _++_, append-assoc}
+use mathlib.Core.Bool.{Bool, true, false}
+use Prim.Native.Nat.{ℕ, _+_, _-_, _<_, _≤_}
+use native.Mathlib.Omega.{arith}
+use lib.Dec.{leb}
+use lib.ListN.{length, drop, getD, length-append, length-drop}
+use lib.Seq.{getD-append-add, getD-drop}
+use borrow.Author.Tests.{leb-true, le-leb}
+use Rattle.run.specs.Choice.{pick}
+use Rattle.run.specs.Head.{Outcome, accepted, refusal}
+use Rattle.run.specs.Answers.{answer, given, answerOf, writtenOf, over}
+
+-- what joined lists of elements give is what each gives, joined
+pub given-append : {A : Type 0} (gives : A → List ℕ) (es fs : List A) → given gives (es ++ fs) ≡ given gives es ++ given gives fs
+unfolding given
+given-append gives [] fs = refl
+given-append gives (e ∷ es) fs = ap (λ (l : List ℕ). gives e ++ l) (given-append gives es fs) ∙ sym (append-assoc (gives e) (given gives es) (given gives fs))
+
+pub over-length : (l ws : List ℕ) → length ws ≤ length l → length (over l ws) ≡ length l
+over-length l ws h = omega (arith, length-append ws (drop (length ws) l), length-drop (length ws) l)
+
+-- an entry past what was given stays
+pub over-past : (l ws : List ℕ) (k d : ℕ) → length ws ≤ k → getD (over l ws) k d ≡ getD l k d
+over-past l ws k d h =
+    let e : length ws + (k - length ws) ≡ k = omega arith in
+    ap (λ (i : ℕ). getD (over l ws) i d) (sym e)
+    ∙ getD-append-add ws (drop (length ws) l) (k - length ws) d
+    ∙ getD-drop (length ws) l (k - length ws) d
+    ∙ ap (λ (i : ℕ). getD l i d) e
+
+module _ {A : Type 0} (gives : A → List ℕ) (n : ℕ) (l : List ℕ) where
+  by-room : (ws : List ℕ) (t : Bool) (es : ℕ) → leb (length ws) (length l) ≡ t → (pick t (answer 0 es n (length ws)) (answer 9 0 0 (length ws)) .number ≡ 0 → ⊥) → pick t (over l ws) l ≡ l
+  by-room ws true es e h = absurd (h refl)
+  by-room ws false es e h = refl
+
+  -- A refusal leaves the buffer as it stood, every entry of it.
+  pub refusal-keeps : (x : Outcome A) → (answerOf gives n (length l) x .number ≡ 0 → ⊥) → writtenOf gives l x ≡ l
+  refusal-keeps (accepted es) h = by-room (given gives es) (leb (length (given gives es)) (length l)) (length es) refl h
+  refusal-keeps (refusal r e p d) h = refl
+
+  room-length : (ws : List ℕ) (t : Bool) → leb (length ws) (length l) ≡ t → length (pick t (over l ws) l) ≡ length l
+  room-length ws true e = over-length l ws (leb-true (length ws) (length l) e)
+  room-length ws false e = refl
+
+  -- The buffer keeps its length.
+  pub written-length : (x : Outcome A) → length (writtenOf gives l x) ≡ length l
+  written-length (accepted es) = room-length (given gives es) (leb (length (given gives es)) (length l)) refl
+  written-length (refusal r e p d) = refl
+
+  past-by : (ws : List ℕ) (t : Bool) (es k d : ℕ) → pick t (answer 0 es n (length ws)) (answer 9 0 0 (length ws)) .count ≤ k → getD (pick t (over l ws) l) k d ≡ getD l k d
+  past-by ws true es k d h = over-past l ws k d h
+  past-by ws false es k d h = refl
+
+  -- Entries past the count stay.
+  pub past-count : (x : Outcome A) (k d : ℕ) → answerOf gives n (length l) x .count ≤ k → getD (writtenOf gives l x) k d ≡ getD l k d
+  past-count (accepted es) k d h = past-by (given gives es) (leb (length (given gives es)) (length l)) (length es) k d h
+  past-count (refusal r e p i) k d h = refl

@@ -1,0 +1,36 @@
+-- A test over a list, which antt computes, becomes the rule at each member.
+-- Assumes nothing.
+use mathlib.Core.Path.{_≡_, sym, ap, _∙_}
+use mathlib.Core.List.{List, [], _∷_, _++_, map, List·Memᴰ, List·Memᴰ·head, List·Memᴰ·tail}
+
+-- what stands first in a list, and the list without it
+pub first : {A : Type 0} → A → List A → A
+first d [] = d
+first d (x ∷ xs) = x
+
+pub rest : {A : Type 0} → List A → List A
+rest [] = []
+rest (x ∷ xs) = xs
+
+-- two lists are one from the first on
+pub same-first : {A : Type 0} {x y : A} {xs ys : List A} → x ∷ xs ≡ y ∷ ys → x ≡ y
+unfolding first
+same-first {x = x} e = ap (first x) e
+
+pub same-rest : {A : Type 0} {x y : A} {xs ys : List A} → x ∷ xs ≡ y ∷ ys → xs ≡ ys
+unfolding rest
+same-rest e = ap rest e
+
+-- f and g agree at each member of a list at which their values, listed, are one list
+pub at-member : {A B : Type 0} (f g : A → B) {a : A} {l : List A} → List·Memᴰ a l → map f l ≡ map g l → f a ≡ g a
+at-member f g (List·Memᴰ·head p) e = ap f p ∙ same-first e ∙ sym (ap g p)
+at-member f g (List·Memᴰ·tail m) e = at-member f g m (same-rest e)
+
+-- a member of one of two lists is a member of the two joined
+pub member-left : {A : Type 0} {a : A} {l : List A} → List·Memᴰ a l → (m : List A) → List·Memᴰ a (l ++ m)
+member-left (List·Memᴰ·head p) m = List·Memᴰ·head p
+member-left (List·Memᴰ·tail h) m = List·Memᴰ·tail (member-left h m)
+
+pub member-right : {A : Type 0} {a : A} (l : List A) {m : List A} → List·Memᴰ a m → List·Memᴰ a (l ++ m)
+member-right [] h = h
+member-right (x ∷ l) h = List·Memᴰ·tail (member-right l h)

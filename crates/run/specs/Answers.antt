@@ -1,0 +1,43 @@
+-- From what a list comes to, to the four numbers of an answer and to what a lent buffer holds after (document 01, "The numbers an answer
+-- carries").
+-- Assumes nothing.
+use Prim.Native.Nat.{ℕ}
+use mathlib.Core.List.{List, [], _∷_, _++_}
+use lib.Dec.{leb}
+use lib.ListN.{length, drop}
+use Rattle.run.specs.Choice.{pick}
+use Rattle.run.specs.Head.{Outcome, accepted, refusal}
+use Rattle.run.specs.declared.Answer.{Answer}
+
+-- four numbers as an answer
+abbrev pub answer : ℕ → ℕ → ℕ → ℕ → Answer
+answer r n p c = record { number = r; element = n; place = p; count = c }
+
+-- a refusal that carries no place: 11 to 15, and what a later request adds
+abbrev pub bare : ℕ → Answer
+bare r = answer r 0 0 0
+
+-- "In 1 to 8 the count is an octet place too and moves up with it"; of any other refusal of an element (10) it is 0
+abbrev pub countOf : ℕ → ℕ → ℕ
+countOf r d = pick (leb r 8) d 0
+
+-- the entries that a list of elements gives, one element after another
+unfoldable pub given : {A : Type 0} → (A → List ℕ) → List A → List ℕ
+given gives [] = []
+given gives (e ∷ es) = gives e ++ given gives es
+
+-- Accepted: 0, elements, input length, entries written; 9 with the room needed where the room is short; a refusal as it is.
+-- n is the input's length, room the length of the lent buffer.
+abbrev pub answerOf : {A : Type 0} → (A → List ℕ) → ℕ → ℕ → Outcome A → Answer
+answerOf gives n room (accepted es) =
+    pick (leb (length (given gives es)) room) (answer 0 (length es) n (length (given gives es))) (answer 9 0 0 (length (given gives es)))
+answerOf gives n room (refusal r e p d) = answer r e p (countOf r d)
+
+-- the entries ws over the first of a buffer l; the rest untouched
+abbrev pub over : List ℕ → List ℕ → List ℕ
+over l ws = ws ++ drop (length ws) l
+
+-- What the lent buffer l holds after: what was given, and then the untouched rest; on any refusal l as it stood.
+abbrev pub writtenOf : {A : Type 0} → (A → List ℕ) → List ℕ → Outcome A → List ℕ
+writtenOf gives l (accepted es) = pick (leb (length (given gives es)) (length l)) (over l (given gives es)) l
+writtenOf gives l (refusal r e p d) = l

@@ -1,0 +1,20 @@
+-- A choice by a test, and the tests that definitions are made of.
+-- Assumes nothing.
+use Prim.Native.Nat.{ℕ}
+use mathlib.Core.Bool.{Bool, true, false}
+use mathlib.Core.List.{List, [], _∷_}
+use lib.Dec.{eqb, leb}
+
+-- a if the test holds, else b
+abbrev pub pick {ℓ} : {A : Type ℓ} → Bool → A → A → A
+pick true a b = a
+pick false a b = b
+
+-- lo ≤ n ≤ hi
+abbrev pub within : ℕ → ℕ → ℕ → Bool
+within lo hi n = pick (leb lo n) (leb n hi) false
+
+-- n is one of ns
+abbrev pub oneOf : List ℕ → ℕ → Bool
+oneOf [] n = false
+oneOf (k ∷ ks) n = let more = oneOf ks n in pick (eqb k n) true more
