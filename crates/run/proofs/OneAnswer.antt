@@ -1,11 +1,29 @@
 -- A promise that is an equation allows only one answer.
 -- Assumes nothing.
+use Prim.Native.Nat.{ℕ}
 use mathlib.Core.Path.{_≡_, sym, _∙_}
+use mathlib.Core.List.{List}
+use Rattle.run.specs.Put.{Put}
 
--- of a result
-pub one-answer : {A : Type 0} {r r′ : A} (promised : A) → r ≡ promised → r′ ≡ promised → r ≡ r′
-one-answer promised p q = p ∙ sym q
+-- two results that are what was promised, of the same entry, are equal
+abbrev pub Once : {A : Type 0} → A → Type 0
+Once {A} promised = (r r′ : A) → r ≡ promised → r′ ≡ promised → r ≡ r′
 
--- of a result and of what a lent buffer holds at exit: two runs from the same entry that both keep the promise agree in both
-pub one-answer-and-buffer : {A B : Type 0} {r r′ : A} {b b′ : B} (promised : A) (held : B) → (r ≡ promised) × (b ≡ held) → (r′ ≡ promised) × (b′ ≡ held) → (r ≡ r′) × (b ≡ b′)
-one-answer-and-buffer promised held p q = (one-answer promised (p .0) (q .0), one-answer held (p .1) (q .1))
+pub once : {A : Type 0} (promised : A) → Once promised
+once promised r r′ p q = p ∙ sym q
+
+-- the same of a result and of what a lent buffer holds at exit
+abbrev pub Once-both : {A B : Type 0} → A → B → Type 0
+Once-both {A} {B} promised held =
+    (r r′ : A) (b b′ : B) → (r ≡ promised) × (b ≡ held) → (r′ ≡ promised) × (b′ ≡ held) → (r ≡ r′) × (b ≡ b′)
+
+pub once-both : {A B : Type 0} (promised : A) (held : B) → Once-both promised held
+once-both promised held r r′ b b′ p q = (once promised r r′ (p .0) (q .0), once held b b′ (p .1) (q .1))
+
+-- the same of what a writer leaves: the buffer and the place
+abbrev pub Once-put : List ℕ → ℕ → List ℕ → Type 0
+Once-put out at entries =
+    (a a′ : List ℕ) (r r′ : ℕ) → Put out at entries a r → Put out at entries a′ r′ → (a ≡ a′) × (r ≡ r′)
+
+pub once-put : (out : List ℕ) (at : ℕ) (entries : List ℕ) → Once-put out at entries
+once-put out at entries a a′ r r′ p q = (p .holds ∙ sym (q .holds), p .place ∙ sym (q .place))

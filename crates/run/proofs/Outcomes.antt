@@ -195,10 +195,11 @@ module _ {A : Type 0} (head : List ℕ → Head A) (S : List ℕ → A → Type 
   pub refuses : (s : List ℕ) (r n p d : ℕ) → (outcome head s ≡ refusal r n p d) ↔ Stopped head S s r n p d
   refuses s r n p d = (reading-stopped (reading s) r n p d, stopped-refused)
 
-  pub before-refusal : (s : List ℕ) (r n p d : ℕ) → outcome head s ≡ refusal r n p d → (front : List ℕ) × (es : List A) × (outcome head front ≡ accepted es) × (length es ≡ n) × (length front ≡ p)
+  -- What stands before a refusal is accepted, with exactly as many elements as it says.
+  pub before-refusal : (s : List ℕ) (r n p d : ℕ) → outcome head s ≡ refusal r n p d → (front : List ℕ) × (rest : List ℕ) × (es : List A) × (s ≡ front ++ rest) × (outcome head front ≡ accepted es) × (length es ≡ n) × (length front ≡ p)
   before-refusal s r n p d q =
       let h = refuses s r n p d .0 q in
-      (h .front, h .elements, run-accepted (h .run .1), sym (h .element-number), sym (h .first-place))
+      (h .front, h .rest, h .elements, h .whole, run-accepted (h .run .1), sym (h .element-number), sym (h .first-place))
 
   -- The places of a refusal are places of the list, or its end.
   pub placed : (s : List ℕ) (r n p d : ℕ) → outcome head s ≡ refusal r n p d → Placed (length s) r p d

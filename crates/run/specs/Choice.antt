@@ -18,3 +18,8 @@ within lo hi n = pick (leb lo n) (leb n hi) false
 abbrev pub oneOf : List ℕ → ℕ → Bool
 oneOf [] n = false
 oneOf (k ∷ ks) n = let more = oneOf ks n in pick (eqb k n) true more
+
+-- what the first of a list's entries that has the key k gives
+abbrev pub firstBy : {A B : Type 0} → (A → ℕ) → (A → B) → B → List A → ℕ → B
+firstBy key gives missing [] k = missing
+firstBy key gives missing (a ∷ as′) k = let more = firstBy key gives missing as′ k in pick (eqb (key a) k) (gives a) more

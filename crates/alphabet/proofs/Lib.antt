@@ -1,0 +1,11 @@
+mod Grid
+mod Pairs
+mod Spacings
+mod Spellings
+mod Sorted
+pub mod Table
+pub mod Canonical
+pub mod Facts
+pub mod Numbers
+pub mod Counts
+pub mod OneAnswer

@@ -1,0 +1,6 @@
+pub mod Cells
+pub mod Tables
+pub mod Squares
+pub mod Forms
+pub mod Sorts
+pub mod Spelling

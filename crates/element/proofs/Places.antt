@@ -1,0 +1,82 @@
+-- Where the answers of a reading stand in the text, and that a canonical spelling is read back there.
+-- Assumes nothing.
+use Prim.Native.Nat.{ℕ, _+_, _-_, _≤_, _<_}
+use mathlib.Core.Path.{_≡_, refl, sym, ap, _∙_}
+use mathlib.Core.List.{List, [], _∷_, _++_}
+use native.Mathlib.Omega.{arith}
+use lib.ListN.{length, drop, length-append, length-drop, drop-of-length-le}
+use Rattle.run.specs.Head.{Head, element, refused, none}
+use Rattle.run.specs.Grammar.{Begins}
+use Rattle.run.specs.Answers.{answer}
+use Rattle.alphabet.specs.declared.Form.{Form}
+use Rattle.element.specs.declared.Element.{Element}
+use Rattle.element.specs.declared.Step.{Step}
+use Rattle.element.specs.declared.Step.the-variants.{Element as Read, Refused as Stopped, End}
+use Rattle.element.specs.Words.{wordsOf}
+use Rattle.element.specs.Grammar.{Spells, Refuses}
+use Rattle.element.specs.Reading.{headIn, stepOf, stepAt, stepAnswer}
+use Rattle.element.specs.Spelling.{CanonicalElement}
+use Rattle.element.proofs.Reader.{reads, refuses-exactly-by, begins-head}
+use Rattle.element.proofs.Writer.{canonical-spells}
+
+module _ (f : Form) where
+  -- At the end no element begins, and nothing is refused: with `never-both`, the three of `one-of-three` exclude each other.
+  pub end-no-element : (e : Element) (k : ℕ) → Begins (Spells f) [] e k → ⊥
+  end-no-element e k b =
+      let l : 0 ≡ length (b .front) + length (b .rest) = ap length (b .whole) ∙ length-append (b .front) (b .rest) in
+      omega (arith, reads f .some (b .front) e (b .spells))
+
+  pub end-no-refusal : (r d : ℕ) → Refuses f [] r d → ⊥
+  end-no-refusal r d h = let p = refuses-exactly-by f [] r d .1 h in let q = reads f .ends in let w : _≡_ {A = ℕ} 0 1 = cc in omega arith
+
+  -- where something is refused, something stands
+  refused-some : (s : List ℕ) (r d : ℕ) → headIn f s ≡ refused r d → 0 < length s
+  refused-some [] r d q = let e = reads f .ends in let w : _≡_ {A = ℕ} 0 1 = cc in absurd (omega arith)
+  refused-some (o ∷ s) r d q = omega arith
+
+  -- a step goes on, inside the text; a refusal stands at the place asked for, its deciding octet in the text or at its end
+  abbrev pub Inside : List ℕ → ℕ → Step → Type 0
+  Inside text at (Read e next) = (at < next) × (next ≤ length text)
+  Inside text at (Stopped r p d) = (0 < r) × (p ≡ at) × (at < length text) × (at ≤ d) × (d ≤ length text)
+  Inside text at End = length text ≤ at
+
+  pub step-inside : (text : List ℕ) (at : ℕ) → Inside text at (stepAt f text at)
+  unfolding stepAt
+  step-inside text at = go (headIn f (drop at text)) refl
+    where
+      l : length (drop at text) ≡ length text - at
+      l = length-drop at text
+
+      go : (h : Head Element) → headIn f (drop at text) ≡ h → Inside text at (stepOf at h)
+      go (element e k) q =
+          let b = reads f .found (drop at text) e k q in
+          let z : length (drop at text) ≡ length (b .front) + length (b .rest) = ap length (b .whole) ∙ length-append (b .front) (b .rest) in
+          let s = reads f .some (b .front) e (b .spells) in
+          let y = b .size in
+          (omega arith, omega (arith, l))
+      go (refused r d) q =
+          let i = reads f .inside (drop at text) r d q in
+          let s = refused-some (drop at text) r d q in
+          (reads f .numbered (drop at text) r d q, refl, omega (arith, l), omega arith, omega (arith, l))
+      go none q = let z : length (drop at text) ≡ 0 = ap length (reads f .goes (drop at text) q) in omega (arith, l)
+
+  -- ---- the four numbers of a step, as document 01 has them
+
+  pub element-answer : (text : List ℕ) (at : ℕ) (e : Element) (k : ℕ) → Begins (Spells f) (drop at text) e k → stepAnswer (stepAt f text at) ≡ answer 0 1 (at + k) (length (wordsOf e))
+  unfolding stepAt
+  element-answer text at e k b = ap (λ (h : Head Element). stepAnswer (stepOf at h)) (begins-head f b)
+
+  pub refusal-answer : (text : List ℕ) (at r d : ℕ) → Refuses f (drop at text) r d → stepAnswer (stepAt f text at) ≡ answer r 0 at (at + d)
+  unfolding stepAt
+  refusal-answer text at r d h = ap (λ (h : Head Element). stepAnswer (stepOf at h)) (refuses-exactly-by f (drop at text) r d .1 h)
+
+  -- "Asked at or past the end of the text, it answers that none is left."
+  pub end-answer : (text : List ℕ) (at : ℕ) → length text ≤ at → stepAnswer (stepAt f text at) ≡ answer 0 0 0 0
+  unfolding stepAt
+  end-answer text at h =
+      ap (λ (u : List ℕ). stepAnswer (stepOf at (headIn f u))) (drop-of-length-le text h)
+      ∙ ap (λ (h : Head Element). stepAnswer (stepOf at h)) (reads f .ends)
+
+  -- An element's canonical spelling reads back as that element, whatever follows it.
+  pub reads-back : (s t : List ℕ) (e : Element) → CanonicalElement f s e → headIn f (s ++ t) ≡ element e (length s)
+  reads-back s t e c = reads f .finds s t e (canonical-spells f c)

@@ -1,0 +1,42 @@
+use mathlib.Core.Path.{sym, _∙_}
+use Rattle.element.proofs.Steps.{sequence-count, sequence-whole, sequence-stopped, sequence-ended}
+use borrow.Author.Needs.{needs}
+use Rattle.element.proofs.sequence_step.Statement.{statement}
+use Rattle.element.proofs.sequence_step.Tie as tie
+
+read-sequence-requires : tie.Need-read-sequence-requires
+read-sequence-requires c κs = search needs
+
+enum-known-reading : tie.Need-enum-known-reading
+enum-known-reading c = search needs
+
+head-word-requires : tie.Need-head-word-requires
+head-word-requires c κs = sequence-count _ _ _ _ _ _ _ (sym (c .before .before .before .read-sequence .ensures) ∙ c .before .reading .given .1)
+
+enum-known-reading-2 : tie.Need-enum-known-reading-2
+enum-known-reading-2 c = search needs
+
+enum-told : tie.Need-enum-told
+enum-told c = search needs
+
+returns : tie.Need-returns
+returns c = sequence-whole _ _ _ _ _ _ _ _ (sym (c .before .before .before .before .read-sequence .ensures) ∙ c .before .before .reading .given .1) (c .head-word .ensures)
+
+returns-2 : tie.Need-returns-2
+returns-2 c = sequence-stopped _ _ _ _ (sym (c .before .before .before .read-sequence .ensures) ∙ c .before .reading2 .given .1)
+
+returns-3 : tie.Need-returns-3
+returns-3 c = sequence-ended _ _ (sym (c .before .before .read-sequence .ensures) ∙ c .enum-told .given .1)
+
+pub sequence-step-spec : {M : Type 1} → statement M
+sequence-step-spec =
+    tie.close
+    (tie.spec
+    read-sequence-requires
+    enum-known-reading
+    head-word-requires
+    enum-known-reading-2
+    enum-told
+    returns
+    returns-2
+    returns-3)

@@ -1,0 +1,94 @@
+use mathlib.Core.Path.{sym, ap, _∙_}
+use Rattle.element.proofs.Steps.{shifted-end, shifted-here, follower-second}
+use borrow.Author.Needs.{needs}
+use Rattle.element.proofs.shift_step.Statement.{statement}
+use Rattle.element.proofs.shift_step.Tie as tie
+
+add-i : tie.Need-add-i
+add-i c = search needs
+
+returns : tie.Need-returns
+returns c = shifted-end _ _ _ (c .if1 .taken)
+
+shared-slice-read-sort-shifted : tie.Need-shared-slice-read-sort-shifted
+shared-slice-read-sort-shifted c = search needs
+
+sort-shifted-requires : tie.Need-sort-shifted-requires
+sort-shifted-requires c κs = search needs
+
+enum-known-sort : tie.Need-enum-known-sort
+enum-known-sort c = search needs
+
+add-t15 : tie.Need-add-t15
+add-t15 c = search needs
+
+enum-known-sort-2 : tie.Need-enum-known-sort-2
+enum-known-sort-2 c = search needs
+
+add-follower-step : tie.Need-add-follower-step
+add-follower-step c = search needs
+
+follower-step-requires : tie.Need-follower-step-requires
+follower-step-requires c κs = search needs
+
+enum-told : tie.Need-enum-told
+enum-told c = search needs
+
+enum-told-2 : tie.Need-enum-told-2
+enum-told-2 c = search needs
+
+enum-told-3 : tie.Need-enum-told-3
+enum-told-3 c = search needs
+
+enum-told-4 : tie.Need-enum-told-4
+enum-told-4 c = search needs
+
+enum-known-sort-3 : tie.Need-enum-known-sort-3
+enum-known-sort-3 c = search needs
+
+returns-2 : tie.Need-returns-2
+returns-2 c = shifted-here _ _ _ _ (c .before .before .before .before .before .if1 .left) (sym (c .before .before .before .sort-shifted .ensures) ∙ c .before .sort .given .1)
+
+returns-3 : tie.Need-returns-3
+returns-3 c = c .follower-step .ensures ∙ follower-second _ _ _ _ _ ∙ shifted-here _ _ _ _ (c .before .before .before .before .before .before .if1 .left) (sym (c .before .before .before .before .sort-shifted .ensures) ∙ c .before .before .sort2 .given .1)
+
+returns-4 : tie.Need-returns-4
+returns-4 c = shifted-here _ _ _ _ (c .before .before .before .before .if1 .left) (sym (c .before .before .sort-shifted .ensures) ∙ c .enum-told .given .1)
+
+returns-5 : tie.Need-returns-5
+returns-5 c = shifted-here _ _ _ _ (c .before .before .before .before .if1 .left) (sym (c .before .before .sort-shifted .ensures) ∙ c .enum-told2 .given .1)
+
+returns-6 : tie.Need-returns-6
+returns-6 c = shifted-here _ _ _ _ (c .before .before .before .before .if1 .left) (sym (c .before .before .sort-shifted .ensures) ∙ c .enum-told3 .given .1)
+
+returns-7 : tie.Need-returns-7
+returns-7 c = shifted-here _ _ _ _ (c .before .before .before .before .if1 .left) (sym (c .before .before .sort-shifted .ensures) ∙ c .enum-told4 .given .1)
+
+returns-8 : tie.Need-returns-8
+returns-8 c = shifted-here _ _ _ _ (c .before .before .before .before .before .if1 .left) (sym (c .before .before .before .sort-shifted .ensures) ∙ c .before .sort3 .given .1)
+
+pub shift-step-spec : {M : Type 1} → statement M
+shift-step-spec =
+    tie.close
+    (tie.spec
+    add-i
+    returns
+    shared-slice-read-sort-shifted
+    sort-shifted-requires
+    enum-known-sort
+    add-t15
+    enum-known-sort-2
+    add-follower-step
+    follower-step-requires
+    enum-told
+    enum-told-2
+    enum-told-3
+    enum-told-4
+    enum-known-sort-3
+    returns-2
+    returns-3
+    returns-4
+    returns-5
+    returns-6
+    returns-7
+    returns-8)

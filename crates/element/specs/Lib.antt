@@ -1,0 +1,4 @@
+pub mod Words
+pub mod Grammar
+pub mod Reading
+pub mod Spelling

@@ -1,0 +1,32 @@
+-- A choice by a test, taken apart; a test of membership, as membership.
+-- Assumes nothing.
+use Prim.Native.Nat.{ℕ, _≤_}
+use mathlib.Core.Path.{_≡_, refl, sym}
+use mathlib.Core.List.{List, [], _∷_, List·Memᴰ, List·Memᴰ·head, List·Memᴰ·tail}
+use mathlib.Core.Bool.{Bool, true, false}
+use native.Mathlib.Omega.{arith}
+use lib.Dec.{eqb, leb}
+use borrow.Author.Tests.{eqb-true, leb-true}
+use Rattle.run.specs.Choice.{pick, within, oneOf}
+
+-- what holds of both branches, each under its test, holds of the choice
+pub pick-case : {A : Type 0} (P : A → Type 0) (t : Bool) (x y : A) → (t ≡ true → P x) → (t ≡ false → P y) → P (pick t x y)
+pick-case P true x y f g = f refl
+pick-case P false x y f g = g refl
+
+-- a number that passes the test of a range is in it
+pub within-range : (lo hi n : ℕ) → within lo hi n ≡ true → (lo ≤ n) × (n ≤ hi)
+within-range lo hi n = go (leb lo n) refl
+  where
+    go : (t : Bool) → leb lo n ≡ t → pick t (leb n hi) false ≡ true → (lo ≤ n) × (n ≤ hi)
+    go true e h = (leb-true lo n e, leb-true n hi h)
+    go false e h = let z : _≡_ {A = ℕ} 0 1 = cc in absurd (omega arith)
+
+-- a number that passes the test of a list is a member of it
+pub one-of : (ks : List ℕ) (n : ℕ) → oneOf ks n ≡ true → List·Memᴰ n ks
+one-of [] n h = let z : _≡_ {A = ℕ} 0 1 = cc in absurd (omega arith)
+one-of (k ∷ ks) n h = go (eqb k n) refl h (one-of ks n)
+  where
+    go : (t : Bool) → eqb k n ≡ t → pick t true (oneOf ks n) ≡ true → (oneOf ks n ≡ true → List·Memᴰ n ks) → List·Memᴰ n (k ∷ ks)
+    go true e q ih = List·Memᴰ·head (sym (eqb-true k n e))
+    go false e q ih = List·Memᴰ·tail (ih q)

@@ -1,0 +1,14 @@
+use mathlib.Core.Path.{sym}
+use Rattle.sequence.proofs.Steps.{fresh-late, fresh-goes}
+use native.Mathlib.Omega.{arith}
+use Rattle.sequence.proofs.unless_late.Statement.{statement}
+use Rattle.sequence.proofs.unless_late.Tie as tie
+
+returns : tie.Need-returns
+returns c = sym (fresh-late (c .before .before .args .s) _ (omega arith))
+
+returns-2 : tie.Need-returns-2
+returns-2 c = sym (fresh-goes (c .before .before .args .s) _ (omega arith))
+
+pub unless-late-spec : {M : Type 1} → statement M
+unless-late-spec = tie.close (tie.spec returns returns-2)

@@ -1,0 +1,724 @@
+"""The alphabets, the elements and the texts of document 01, from its text alone.
+
+A form is 1, 2 or 3, an octet is 0 to 255, a character is its Unicode code point. The lists below are the document's own
+sentences, kept as text and taken apart here, so that they can be held against the page. The 154 pairs stand nowhere in the
+document: they are derived from Unicode's canonical decompositions, as it says. Where the document leaves a matter open,
+docs/DECISIONS.md has how it was decided. Run by itself it says whether the document's sixteen readings hold. Standard library only.
+"""
+from __future__ import annotations
+
+import unicodedata
+from typing import NamedTuple, Optional, Sequence, Tuple, Union
+
+FORMS = (1, 2, 3)
+SPACE = 0x20
+SS2 = 0x19
+UNDERLINE = 0xCC
+SEQUENCE_START = 0x9B
+TOP_BIT = 0x80
+
+# "Supplementary, forms 1 and 2, spacing"
+SUPPLEMENTARY_LIST = """
+A0 00A0, A1 00A1, A2 00A2, A3 00A3, A5 00A5, A7 00A7, A8 00A4, A9 2018, AA 201C, AB 00AB, AC 2190, AD 2191, AE 2192, AF 2193,
+B0 00B0, B1 00B1, B2 00B2, B3 00B3, B4 00D7, B5 00B5, B6 00B6, B7 00B7, B8 00F7, B9 2019, BA 201D, BB 00BB, BC 00BC, BD 00BD,
+BE 00BE, BF 00BF, D0 2015, D1 00B9, D2 00AE, D3 00A9, D4 2122, D5 266A, D6 00AC, D7 00A6, DC 215B, DD 215C, DE 215D, DF 215E,
+E0 2126, E1 00C6, E2 0110, E3 00AA, E4 0126, E6 0132, E7 013F, E8 0141, E9 00D8, EA 0152, EB 00BA, EC 00DE, ED 0166, EE 014A,
+EF 0149, F0 0138, F1 00E6, F2 0111, F3 00F0, F4 0127, F5 0131, F6 0133, F7 0140, F8 0142, F9 00F8, FA 0153, FB 00DF, FC 00FE,
+FD 0167, FE 014B, FF 00AD
+"""
+
+# "A4, A6, C0, C9, CC, D8 to DB and E5 are unallocated."
+UNALLOCATED_LIST = "A4, A6, C0, C9, CC, D8 to DB, E5"
+
+# "Form 3: the same without 5C, 5E, 60, 7B, 7D, 7E"
+MISSING_FROM_FORM_3_LIST = "5C, 5E, 60, 7B, 7D, 7E"
+
+# "Form 3 has A1 to A8, AB, B0 to B8, BB to BF, E0 to E4, E6 to FE as above"
+FORM_3_SUPPLEMENTARY_LIST = "A1 to A8, AB, B0 to B8, BB to BF, E0 to E4, E6 to FE"
+
+# "Marks, all forms, written before the letter, with the combining character in brackets"
+MARK_LIST = """
+C1 grave (0300) AEIOU aeiou; C2 acute (0301) ACEILNORSUYZ aceilnorsuyz; C3 circumflex (0302) ACEGHIJOSUWY aceghijosuwy;
+C4 tilde (0303) AINOU ainou; C5 macron (0304) AEIOU aeiou; C6 breve (0306) AGU agu; C7 dot above (0307) CEGIZ cegz;
+C8 diaeresis (0308) AEIOUY aeiouy; CA ring (030A) AU au; CB cedilla (0327) CGKLNRST cklnrst; CD double acute (030B) OU ou;
+CE ogonek (0328) AEIU aeiu; CF caron (030C) CDELNRSTZ cdelnrstz
+"""
+
+# "A mark and SPACE is the free-standing accent, in the order above"
+FREE_STANDING_LIST = "0060, 00B4, 005E, 007E, 00AF, 02D8, 02D9, 00A8, 02DA, 00B8, 02DD, 02DB, 02C7"
+
+# "Controls: forms 1 and 2 have 0A and 0D. Form 3 has 08, 0A, 0C, 0D, 1A, 8B, 8C."
+CONTROL_LISTS = {1: "0A, 0D", 2: "0A, 0D", 3: "08, 0A, 0C, 0D, 1A, 8B, 8C"}
+
+# Number 2: "element begins with 0E, 0F, 1B, 1D, and 19 in forms 1 and 3"
+ESCAPE_LISTS = {1: "0E, 0F, 1B, 1D, 19", 2: "0E, 0F, 1B, 1D", 3: "0E, 0F, 1B, 1D, 19"}
+
+
+def listed(text: str) -> list[int]:
+    """The numbers of a list such as `A1 to A8, AB`, where `to` counts both ends."""
+    numbers: list[int] = []
+    for part in text.split(","):
+        ends = [int(end, 16) for end in part.split("to")]
+        numbers.extend(range(ends[0], ends[-1] + 1))
+    return numbers
+
+
+class Mark(NamedTuple):
+    """A mark: its name, its combining character, and the letters that may follow it."""
+
+    name: str
+    combining: int
+    letters: str
+
+
+def marks_of(text: str) -> dict[int, Mark]:
+    """The marks of `MARK_LIST`, by octet: octet, name, combining character in brackets, capital and small letters."""
+    marks = {}
+    for entry in text.split(";"):
+        before, _, after = entry.partition("(")
+        octet, name = before.split(maxsplit=1)
+        combining, capitals, smalls = after.replace(")", " ").split()
+        marks[int(octet, 16)] = Mark(name.strip(), int(combining, 16), capitals + smalls)
+    return marks
+
+
+SUPPLEMENTARY = {int(entry.split()[0], 16): int(entry.split()[1], 16) for entry in SUPPLEMENTARY_LIST.split(",")}
+UNALLOCATED = listed(UNALLOCATED_LIST)
+MISSING_FROM_FORM_3 = listed(MISSING_FROM_FORM_3_LIST)
+FORM_3_SUPPLEMENTARY = listed(FORM_3_SUPPLEMENTARY_LIST)
+MARKS = marks_of(MARK_LIST)
+FREE_STANDING = listed(FREE_STANDING_LIST)
+CONTROLS = {form: listed(text) for form, text in CONTROL_LISTS.items()}
+ESCAPES = {form: listed(text) for form, text in ESCAPE_LISTS.items()}
+
+# "53 followers (52 letters and SPACE)"
+LETTERS = "ABCDEFGHIJKLMNOPQRSTUVWXYZabcdefghijklmnopqrstuvwxyz"
+FOLLOWERS = [SPACE] + [ord(letter) for letter in LETTERS]
+
+
+def primary(form: int) -> dict[int, int]:
+    """The primary characters, by octet.
+
+    "Primary, forms 1 and 2: 20 to 7E as ASCII, 95 characters. Form 3: the same without 5C, 5E, 60, 7B, 7D, 7E; 23 reads as the
+    number sign and 24 as the currency sign U+00A4."
+    """
+    characters = {octet: octet for octet in range(0x20, 0x7F)}
+    if form == 3:
+        for octet in MISSING_FROM_FORM_3:
+            del characters[octet]
+        characters[0x23] = 0x0023
+        characters[0x24] = 0x00A4
+    return characters
+
+
+def supplementary(form: int) -> dict[int, int]:
+    """The spacing supplementary characters, by octet with the top bit on.
+
+    "Form 3 has A1 to A8, AB, B0 to B8, BB to BF, E0 to E4, E6 to FE as above, but A4 is the dollar sign and A6 the number sign"
+    """
+    if form != 3:
+        return dict(SUPPLEMENTARY)
+    exceptions = {0xA4: 0x0024, 0xA6: 0x0023}
+    return {octet: exceptions[octet] if octet in exceptions else SUPPLEMENTARY[octet] for octet in FORM_3_SUPPLEMENTARY}
+
+
+def by_decomposition() -> dict[str, list[int]]:
+    """The characters of the Basic Multilingual Plane that have each canonical decomposition, taken one step.
+
+    `unicodedata.decomposition` gives one step, and puts a tag in `<>` before one that is not canonical.
+    """
+    found: dict[str, list[int]] = {}
+    for character in range(0x10000):
+        decomposition = unicodedata.decomposition(chr(character))
+        if decomposition and not decomposition.startswith("<"):
+            found.setdefault(decomposition, []).append(character)
+    return found
+
+
+def filled_squares() -> dict[tuple[int, int], int]:
+    """The filled squares, by mark and follower.
+
+    "each means the one Unicode character whose canonical decomposition, taken one step, is that letter and combining character"
+    """
+    composed = by_decomposition()
+    squares = {}
+    for (octet, mark), accent in zip(MARKS.items(), FREE_STANDING):
+        squares[octet, SPACE] = accent
+        for letter in mark.letters:
+            decomposition = f"{ord(letter):04X} {mark.combining:04X}"
+            characters = composed[decomposition]
+            assert len(characters) == 1, (octet, letter, characters)
+            assert unicodedata.decomposition(chr(characters[0])) == decomposition
+            squares[octet, ord(letter)] = characters[0]
+    return squares
+
+
+PRIMARY = {form: primary(form) for form in FORMS}
+SPACING = {form: supplementary(form) for form in FORMS}
+SQUARES = filled_squares()
+
+
+class Sort(NamedTuple):
+    """What an octet begins: a kind, and with it the character of a graphic, the mark, or the number of a refusal."""
+
+    kind: str
+    value: int = 0
+
+
+def graphic(character: int) -> Sort:
+    return Sort("graphic", character)
+
+
+def refused(number: int) -> Sort:
+    return Sort("refused", number)
+
+
+def sort(form: int, octet: int) -> Sort:
+    """What the octet begins in the form, or its refusal.
+
+    1: "the octet begins nothing in the form and isn't number 2's or 5's"; 2: "element begins with 0E, 0F, 1B, 1D, and 19 in forms 1
+    and 3"; 5: "form 2, octet 80 or above".
+    """
+    if form == 2 and octet >= 0x80:
+        return refused(5)
+    if octet in ESCAPES[form]:
+        return refused(2)
+    if octet in CONTROLS[form]:
+        return Sort("control", octet)
+    if octet in PRIMARY[form]:
+        return graphic(PRIMARY[form][octet])
+    if form == 2:
+        return Sort("shift") if octet == SS2 else refused(1)
+    if octet in SPACING[form]:
+        return graphic(SPACING[form][octet])
+    if octet in MARKS:
+        return Sort("mark", octet)
+    if form == 3 and octet == UNDERLINE:
+        return Sort("underline")
+    if form == 3 and octet == SEQUENCE_START:
+        return Sort("sequence")
+    return refused(1)
+
+
+def sort_shifted(form: int, octet: int) -> Sort:
+    """What the octet after SS2 codes, a mark as its octet with the top bit on, or its refusal.
+
+    "form 2 uses the low seven bits after SS2". 5: "form 2, octet 80 or above"; 1: "after SS2 it codes neither a spacing
+    supplementary nor a mark". Forms 1 and 3 have no SS2, so nothing is coded after one there.
+    """
+    if form != 2:
+        return refused(1)
+    if octet >= 0x80:
+        return refused(5)
+    supplementary_octet = octet | TOP_BIT
+    if supplementary_octet in SPACING[form]:
+        return graphic(SPACING[form][supplementary_octet])
+    if supplementary_octet in MARKS:
+        return Sort("mark", supplementary_octet)
+    return refused(1)
+
+
+def plain(form: int, octet: int) -> bool:
+    """Whether the octet is a graphic whose character is the octet's own number."""
+    return sort(form, octet) == graphic(octet)
+
+
+def pair(mark: int, follower: int) -> Optional[int]:
+    """The character of the mark's square at the follower, or None where the square is not filled."""
+    return SQUARES.get((mark, follower))
+
+
+def one_octet(form: int) -> dict[int, int]:
+    """The octet of each character that the form has one for, a supplementary octet with the top bit on.
+
+    "Form 3 writes the number sign A6 and the currency sign A8."
+    """
+    octets = {character: octet for octet, character in SPACING[form].items()}
+    for octet, character in PRIMARY[form].items():
+        if character not in octets:
+            octets[character] = octet
+        else:
+            assert (form, octet, octets[character]) in {(3, 0x23, 0xA6), (3, 0x24, 0xA8)}
+    return octets
+
+
+ONE_OCTET = {form: one_octet(form) for form in FORMS}
+SQUARE_OF = {character: square for square, character in SQUARES.items()}
+
+
+def spell(form: int, codepoint: int) -> Optional[list[int]]:
+    """The canonical spelling of the character, not underlined, or None where the form lacks it.
+
+    "One octet where the form has one, else the pair", and "Form 2 writes SS2 (19) before the supplementary octet only; the letter
+    of a pair follows bare."
+    """
+    if codepoint in ONE_OCTET[form]:
+        octets = [ONE_OCTET[form][codepoint]]
+    elif codepoint in SQUARE_OF:
+        octets = list(SQUARE_OF[codepoint])
+    else:
+        return None
+    if form == 2 and octets[0] >= 0x80:
+        return [SS2, octets[0] - TOP_BIT] + octets[1:]
+    return octets
+
+
+def repertoire(form: int) -> list[int]:
+    """The characters that the form can spell, in the order of their code points."""
+    return sorted({*ONE_OCTET[form], *SQUARE_OF})
+
+
+def check() -> None:
+    """Document 01's own counts and rules, held against the lists above."""
+    assert len(PRIMARY[1]) == len(PRIMARY[2]) == 95
+    assert len(SUPPLEMENTARY) == 73
+    assert len(SPACING[3]) == 53
+    # A0 to FF is just the supplementary characters, the marks and the unallocated octets.
+    assert sorted([*SUPPLEMENTARY, *MARKS, *UNALLOCATED]) == list(range(0xA0, 0x100))
+    # "The squares of 13 marks by 53 followers .. make a table of 689 entries, 167 of them filled."
+    assert len(MARKS) == len(FREE_STANDING) == 13 and len(FOLLOWERS) == 53
+    assert len(MARKS) * len(FOLLOWERS) == 689
+    assert len(SQUARES) == 167
+    assert sum(len(mark.letters) for mark in MARKS.values()) == 154
+    assert all(follower in FOLLOWERS for _, follower in SQUARES)
+    # "Its rule: no character fills two squares, and none is also a supplementary character."
+    assert len(SQUARE_OF) == 167
+    assert not any(set(SQUARE_OF) & set(SPACING[form].values()) for form in FORMS)
+    # "(A with ring is 00C5)"
+    assert pair(0xCA, ord("A")) == 0x00C5
+    # "U+0060, 005E and 007E are single octets in forms 1 and 2 and pairs in form 3."
+    for character, mark in [(0x0060, 0xC1), (0x005E, 0xC3), (0x007E, 0xC4)]:
+        assert spell(1, character) == spell(2, character) == [character]
+        assert spell(3, character) == [mark, SPACE]
+    # "Writing U+03A9 or U+00D0 as E0 or E2: they are in no form."
+    assert not any(spell(form, character) for form in FORMS for character in (0x03A9, 0x00D0))
+
+
+# Elements, read from octets and as words.
+
+# "Graphic: its code point, plus 2^24 if underlined. Control: 2^25 + octet. Sequence: 2^26 + 65536 x intermediate (0 if none) +
+# 256 x final + number of values, then one word a value."
+UNDERLINED_WORD = 2**24
+CONTROL_WORD = 2**25
+SEQUENCE_WORD = 2**26
+
+# "9B, parameter octets (30 to 39, 3B), at most one intermediate (20 to 2F), one final (40 to 7E)"
+DIGITS = range(0x30, 0x3A)
+SEPARATOR = 0x3B
+INTERMEDIATES = range(0x20, 0x30)
+FINALS = range(0x40, 0x7F)
+
+# "At most 8 values, each at most 999, and 40 octets in all, 9B counted."
+MOST_VALUES = 8
+MOST_VALUE = 999
+MOST_OCTETS = 40
+
+Octets = Sequence[int]
+Words = Sequence[int]
+Place = int
+
+# ("element", its words, the place after it), ("refused", number, place, count), or ("end",)
+Step = Union[Tuple[str, Tuple[int, ...], Place], Tuple[str, int, Place, int], Tuple[str]]
+
+END: Step = ("end",)
+
+
+def element(words: Words, after: Place) -> Step:
+    return ("element", tuple(words), after)
+
+
+def refused_at(number: int, first: Place, deciding: Place) -> Step:
+    """A refusal: "element's first octet; deciding octet"."""
+    return ("refused", number, first, deciding)
+
+
+def cut_off(octets: Octets, first: Place) -> Step:
+    """4: "input ends inside an element", with "first octet; input length"."""
+    return refused_at(4, first, len(octets))
+
+
+def read_follower(form: int, octets: Octets, first: Place, place: Place, mark: int, plus: int = 0) -> Step:
+    """What the mark is with the octet at the place, `plus` more where it is underlined.
+
+    3: "what follows a mark isn't its listed follower". 5: "form 2, octet 80 or above", and "at one octet 5 goes first". SS2 is not
+    kept "in force for the letter": in form 2 too the follower is the bare letter.
+    """
+    if place >= len(octets):
+        return cut_off(octets, first)
+    if form == 2 and octets[place] >= 0x80:
+        return refused_at(5, first, place)
+    character = pair(mark, octets[place])
+    if character is None:
+        return refused_at(3, first, place)
+    return element([character + plus], place + 1)
+
+
+def read_shifted(form: int, octets: Octets, first: Place) -> Step:
+    """What SS2 at the place and the octets after it are: "supplementary ones through SS2"."""
+    place = first + 1
+    if place >= len(octets):
+        return cut_off(octets, first)
+    found = sort_shifted(form, octets[place])
+    if found.kind == "graphic":
+        return element([found.value], place + 1)
+    if found.kind == "mark":
+        return read_follower(form, octets, first, place + 1, found.value)
+    return refused_at(found.value, first, place)
+
+
+def read_underlined(form: int, octets: Octets, first: Place) -> Step:
+    """What CC at the place and the octets after it are.
+
+    "CC stands before a spacing character, or before a mark with its follower." 3: "what follows CC may not".
+    """
+    place = first + 1
+    if place >= len(octets):
+        return cut_off(octets, first)
+    found = sort(form, octets[place])
+    if found.kind == "graphic":
+        return element([found.value + UNDERLINED_WORD], place + 1)
+    if found.kind == "mark":
+        return read_follower(form, octets, first, place + 1, found.value, UNDERLINED_WORD)
+    return refused_at(3, first, place)
+
+
+class Parameters(NamedTuple):
+    """What the octets of a sequence up to some place give: its values, the last of them still open, and its intermediate, or 0."""
+
+    values: tuple[int, ...] = (0,)
+    intermediate: int = 0
+
+
+def is_allowed(so_far: Parameters, octet: int) -> bool:
+    """Whether 6, "octet not allowed at this point of a sequence", is not given: after an intermediate only the final may stand."""
+    if so_far.intermediate:
+        return octet in FINALS
+    return octet in DIGITS or octet == SEPARATOR or octet in INTERMEDIATES or octet in FINALS
+
+
+def with_octet(so_far: Parameters, octet: int) -> Parameters:
+    """The parameters with one more octet, which is allowed and no final.
+
+    "Sub-strings between 3B octets are decimal values; an empty or all-zero one is 0, so there is always one value at least."
+    """
+    values, intermediate = so_far
+    if octet in DIGITS:
+        return Parameters(values[:-1] + (10 * values[-1] + octet - DIGITS[0],), intermediate)
+    if octet == SEPARATOR:
+        return Parameters(values + (0,), intermediate)
+    return Parameters(values, octet)
+
+
+def passes(so_far: Parameters) -> bool:
+    """Whether 7 is given: "the digit that passes 999, or the 3B that opens a ninth value"."""
+    return so_far.values[-1] > MOST_VALUE or len(so_far.values) > MOST_VALUES
+
+
+def sequence_words(parameters: Parameters, final: int) -> list[int]:
+    values, intermediate = parameters
+    return [SEQUENCE_WORD + 65536 * intermediate + 256 * final + len(values), *values]
+
+
+def read_sequence(octets: Octets, first: Place) -> Step:
+    """What 9B at the place and the octets after it are.
+
+    8: "the 40th octet of a sequence isn't its final". "at one octet 5 goes first, then 6, 7, 8".
+    """
+    so_far = Parameters()
+    for place in range(first + 1, len(octets)):
+        octet = octets[place]
+        if not is_allowed(so_far, octet):
+            return refused_at(6, first, place)
+        if octet in FINALS:
+            return element(sequence_words(so_far, octet), place + 1)
+        so_far = with_octet(so_far, octet)
+        if passes(so_far):
+            return refused_at(7, first, place)
+        if place - first + 1 == MOST_OCTETS:
+            return refused_at(8, first, place)
+    return cut_off(octets, first)
+
+
+def read_element(form: int, octets: Octets, at: Place) -> Step:
+    """The element that begins at the place, or its refusal.
+
+    "Each element read answers with the element and the place after it, or with its refusal", and "Asked at or past the end of the
+    text, it answers that none is left."
+    """
+    if at >= len(octets):
+        return END
+    found = sort(form, octets[at])
+    if found.kind == "graphic":
+        return element([found.value], at + 1)
+    if found.kind == "control":
+        return element([CONTROL_WORD + octets[at]], at + 1)
+    if found.kind == "mark":
+        return read_follower(form, octets, at, at + 1, found.value)
+    if found.kind == "shift":
+        return read_shifted(form, octets, at)
+    if found.kind == "underline":
+        return read_underlined(form, octets, at)
+    if found.kind == "sequence":
+        return read_sequence(octets, at)
+    return refused_at(found.value, at, at)
+
+
+class Head(NamedTuple):
+    """The parts of a sequence's first word."""
+
+    intermediate: int
+    final: int
+    values: int
+
+
+def head_of(word: int) -> Optional[Head]:
+    """The parts of a word from 2^26 on, or None where it begins no sequence."""
+    head = Head((word - SEQUENCE_WORD) // 65536, word // 256 % 256, word % 256)
+    proper = (
+        (head.intermediate == 0 or head.intermediate in INTERMEDIATES)
+        and head.final in FINALS
+        and 1 <= head.values <= MOST_VALUES
+    )
+    return head if proper else None
+
+
+def element_of_words(words: Words, at: Place) -> Union[Tuple[str, Tuple[int, ...], Place], Tuple[str]]:
+    """The element whose words begin at the place: ("element", its words, the place after it), ("none",) or ("end",).
+
+    10: "words that are no element or are cut off". A word below 2^26 is one element's; whether a form has it is asked elsewhere.
+    """
+    if at >= len(words):
+        return ("end",)
+    if words[at] < SEQUENCE_WORD:
+        return ("element", (words[at],), at + 1)
+    head = head_of(words[at])
+    if head is None:
+        return ("none",)
+    after = at + 1 + head.values
+    if after > len(words) or any(value > MOST_VALUE for value in words[at + 1 : after]):
+        return ("none",)
+    return ("element", tuple(words[at:after]), after)
+
+
+def spell_sequence(form: int, words: Words) -> Optional[list[int]]:
+    """The canonical spelling of a sequence, which form 3 alone has.
+
+    "Values have no leading zeros, 0 is the empty sub-string, and the number of values is kept."
+    """
+    head = head_of(words[0])
+    if form != 3 or head is None:
+        return None
+    parameters = ";".join(str(value) if value else "" for value in words[1:])
+    intermediate = [head.intermediate] if head.intermediate else []
+    return [SEQUENCE_START, *parameters.encode("ascii"), *intermediate, head.final]
+
+
+def spell_underlined(form: int, character: int) -> Optional[list[int]]:
+    """The canonical spelling of an underlined character: "after CC if underlined", and "Underline, form 3 only"."""
+    spelling = spell(form, character)
+    return [UNDERLINE, *spelling] if form == 3 and spelling is not None else None
+
+
+def spell_control(form: int, octet: int) -> Optional[list[int]]:
+    return [octet] if octet in CONTROLS[form] else None
+
+
+def spell_element(form: int, words: Words) -> Optional[list[int]]:
+    """The canonical spelling of the element with these words, or None where the form lacks it."""
+    word = words[0]
+    if word < UNDERLINED_WORD:
+        return spell(form, word)
+    if word < CONTROL_WORD:
+        return spell_underlined(form, word - UNDERLINED_WORD)
+    if word < SEQUENCE_WORD:
+        return spell_control(form, word - CONTROL_WORD)
+    return spell_sequence(form, words)
+
+
+# Texts. The lent room is a number of entries, or None for as many as are needed.
+
+# 12: "input over 1,048,576 entries"
+MOST_ENTRIES = 1_048_576
+
+
+class Answer(NamedTuple):
+    """What is answered: "Four numbers: number, element, place, count. Accepted: 0, elements, input length, entries written." """
+
+    number: int
+    element: int = 0
+    place: int = 0
+    count: int = 0
+
+
+class Piece(NamedTuple):
+    """An element of a text: its words, and the place of its first octet or word."""
+
+    words: tuple[int, ...]
+    place: Place
+
+
+def refused_before(forms: Sequence[int], entries: Sequence[int]) -> Optional[Answer]:
+    """The refusal that is given before anything is read: "Order: 11 (source, then target), 12"."""
+    if any(form not in FORMS for form in forms):
+        return Answer(11)
+    if len(entries) > MOST_ENTRIES:
+        return Answer(12)
+    return None
+
+
+def read_pieces(form: int, octets: Octets) -> tuple[list[Piece], Optional[Answer]]:
+    """The elements of the text, with None; or those before the first refused one, with its refusal.
+
+    "Element is the count of elements before the refused one for 1 to 8 and 10". The leftmost deciding octet is the first refused
+    element's, since reading goes no further.
+    """
+    pieces: list[Piece] = []
+    at = 0
+    while (step := read_element(form, octets, at))[0] == "element":
+        _, words, after = step
+        pieces.append(Piece(words, at))
+        at = after
+    if step[0] == "refused":
+        _, number, place, count = step
+        return pieces, Answer(number, len(pieces), place, count)
+    return pieces, None
+
+
+def pieces_of_words(words: Words) -> tuple[list[Piece], Optional[Answer]]:
+    """The elements of the words, with None; or those before the first words that are no element, with 10."""
+    pieces: list[Piece] = []
+    at = 0
+    while (step := element_of_words(words, at))[0] == "element":
+        _, element_words, after = step
+        pieces.append(Piece(element_words, at))
+        at = after
+    return pieces, Answer(10, len(pieces), at, 0) if step[0] == "none" else None
+
+
+def spell_pieces(form: int, pieces: Sequence[Piece]) -> tuple[list[int], Optional[Answer]]:
+    """The canonical spellings one after another, with None; or those before the first element that the form lacks, with 10."""
+    octets: list[int] = []
+    for before, piece in enumerate(pieces):
+        spelling = spell_element(form, piece.words)
+        if spelling is None:
+            return octets, Answer(10, before, piece.place, 0)
+        octets.extend(spelling)
+    return octets, None
+
+
+def given(entries: list[int], elements: int, length: int, room: Optional[int]) -> tuple[Answer, list[int]]:
+    """The accepted answer with its entries, or 9, "lent room is short", with "0; room needed". "A refusal writes nothing"."""
+    if room is not None and len(entries) > room:
+        return Answer(9, 0, 0, len(entries)), []
+    return Answer(0, elements, length, len(entries)), entries
+
+
+def read_text(form: int, octets: Octets, room: Optional[int] = None) -> tuple[Answer, list[int]]:
+    """The answer, and the text's words: 11, 12, reading, 9."""
+    refusal = refused_before([form], octets)
+    if refusal:
+        return refusal, []
+    pieces, refusal = read_pieces(form, octets)
+    if refusal:
+        return refusal, []
+    return given([word for piece in pieces for word in piece.words], len(pieces), len(octets), room)
+
+
+def write_text(form: int, words: Words, room: Optional[int] = None) -> tuple[Answer, list[int]]:
+    """The answer, and the words' canonical spelling: 11, 12, 10, 9.
+
+    10 is the leftmost element's that the form lacks, or the words' that are none, whichever stands first.
+    """
+    refusal = refused_before([form], words)
+    if refusal:
+        return refusal, []
+    pieces, no_element = pieces_of_words(words)
+    octets, lacking = spell_pieces(form, pieces)
+    refusal = lacking or no_element
+    if refusal:
+        return refusal, []
+    return given(octets, len(pieces), len(words), room)
+
+
+def convert_text(source: int, target: int, octets: Octets, room: Optional[int] = None) -> tuple[Answer, list[int]]:
+    """The answer, and the text's canonical spelling in the target form: 11, 12, reading, 10, 9."""
+    refusal = refused_before([source, target], octets)
+    if refusal:
+        return refusal, []
+    pieces, refusal = read_pieces(source, octets)
+    if refusal:
+        return refusal, []
+    spelling, refusal = spell_pieces(target, pieces)
+    if refusal:
+        return refusal, []
+    return given(spelling, len(pieces), len(octets), room)
+
+
+# "Sixteen readings to prove": form, octets, and the words or the refusal's number, element, place and count.
+READINGS: list[tuple[int, str, Union[list[int], Answer]]] = [
+    (1, "", []),
+    (1, "C2 65", [233]),
+    (1, "C1 20", [96]),
+    (1, "C2", Answer(4, 0, 0, 1)),
+    (1, "C2 62", Answer(3, 0, 0, 1)),
+    (1, "41 A4", Answer(1, 1, 1, 1)),
+    (2, "19 42 65", [233]),
+    (2, "19 24", Answer(1, 0, 0, 1)),
+    (2, "C2", Answer(5, 0, 0, 0)),
+    (3, "23", [35]),
+    (3, "60", Answer(1, 0, 0, 0)),
+    (3, "CC 41", [16777281]),
+    (3, "9B 34 6D", [67136769, 4]),
+    (3, "9B 20 4C", [69225473, 0]),
+    (3, "9B 30 3B 6D", [67136770, 0, 0]),
+    (3, "1B", Answer(2, 0, 0, 0)),
+]
+
+# What the table's third column says besides: source, target, octets, and the octets or the refusal that the conversion gives.
+CONVERSIONS: list[tuple[int, int, str, Union[str, Answer]]] = [
+    (1, 2, "C2 65", "19 42 65"),
+    (1, 1, "C1 20", "60"),
+    (3, 3, "23", "A6"),
+    (3, 1, "CC 41", Answer(10, 0, 0, 0)),
+    (3, 3, "9B 30 3B 6D", "9B 3B 6D"),
+]
+
+
+def check_readings() -> None:
+    """Document 01's sixteen readings, held against the functions above."""
+    assert len(READINGS) == 16
+    for form, text, expected in READINGS:
+        answer, words = read_text(form, bytes.fromhex(text))
+        assert (answer if answer.number else words) == expected, (form, text, answer, words)
+    for source, target, text, converted in CONVERSIONS:
+        answer, octets = convert_text(source, target, bytes.fromhex(text))
+        assert (answer if answer.number else bytes(octets).hex(" ").upper()) == converted, (source, target, text, answer, octets)
+
+
+def check_texts() -> None:
+    """Every character, control and some sequences there and back, and the order of refusals."""
+    for form in FORMS:
+        words = [*repertoire(form), *(CONTROL_WORD + octet for octet in CONTROLS[form])]
+        if form == 3:
+            words += [UNDERLINED_WORD + character for character in repertoire(form)]
+            words += [*sequence_words(Parameters((0, 7, 999, 0), 0x2F), 0x7E), *sequence_words(Parameters((0,)), 0x40)]
+        written, octets = write_text(form, words)
+        assert written.number == 0 and written.place == len(words)
+        assert read_text(form, octets) == (Answer(0, written.element, len(octets), len(words)), words)
+        assert convert_text(form, form, octets) == (Answer(0, written.element, len(octets), len(octets)), octets)
+        assert write_text(form, words, len(octets) - 1) == (Answer(9, 0, 0, len(octets)), [])
+        assert write_text(form, [*words, SEQUENCE_WORD], 0) == (Answer(10, written.element, len(words), 0), [])
+    too_many = [0] * (MOST_ENTRIES + 1)
+    assert read_text(4, too_many) == convert_text(1, 0, too_many) == (Answer(11), [])
+    assert read_text(1, too_many) == write_text(2, too_many) == convert_text(3, 3, too_many) == (Answer(12), [])
+    # Reading goes before 10, and 10 before 9.
+    assert convert_text(3, 1, [0xCC, 0x41, 0x60], 0) == (Answer(1, 1, 2, 2), [])
+    assert convert_text(3, 1, [0x41, 0xCC, 0x41], 0) == (Answer(10, 1, 1, 0), [])
+
+
+check()
+check_readings()
+
+if __name__ == "__main__":
+    check_texts()
+    print("the sixteen readings hold, and so do the texts")
