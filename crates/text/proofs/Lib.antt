@@ -1,0 +1,10 @@
+pub mod Passed
+pub mod Heads
+pub mod Loops
+pub mod Writes
+pub mod Rooms
+pub mod Edges
+pub mod OneAnswer
+pub mod Demands
+pub mod Conversion
+pub mod Readings

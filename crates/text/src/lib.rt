@@ -1,0 +1,354 @@
+// A whole text: read, written, converted; one element of it.
+use alphabet::Form;
+use alphabet::FormFound;
+use element::Element;
+use element::Step;
+use run::Answer;
+ghost use mathlib.Core.Path.{_≡_};
+ghost use Prim.Native.Nat.{_+_, _≤_, _<_};
+ghost use lib.ListN.{length};
+ghost use Rattle.run.specs.Answers.{bare, answerOf, writtenOf};
+ghost use Rattle.element.specs.Words.{wordsOf};
+ghost use Rattle.element.specs.Reading.{stepAt};
+ghost use Rattle.text.specs.Outcomes.{readIn, writeIn, respellIn, convertIn};
+ghost use Rattle.text.specs.Answers.{limit, same, measured, roomFor, refusedAs, readAnswer, readWords, writeAnswer, writeText, convertAnswer, convertText, loneStep};
+
+// Reads the element at a place, straight through where it is a plain octet.
+fn step_at(form: Form, text: &[u8], at: usize) -> Step
+    ensures { λ r. ⌜ r ≡ stepAt form (now (text .entry)) at ⌝ }
+{
+    if at < text.len() {
+        let o = text[at];
+        if alphabet::is_plain(form, o) {
+            return Step::Element(Element::One(o as u32), at + 1);
+        }
+    }
+    element::element_at(form, text, at)
+}
+
+// 01: "The text reader puts its own count there": a refusal after n elements.
+fn refusal(step: Step, n: usize) -> Answer
+    ensures { λ r. ⌜ r ≡ refusedAs n step ⌝ }
+{
+    match step {
+        Step::Element(_, _) => Answer {
+            number: 0,
+            element: n,
+            place: 0,
+            count: 0,
+        },
+        Step::Refused {
+            number,
+            place,
+            count,
+        } => Answer {
+            number,
+            element: n,
+            place,
+            count,
+        },
+        Step::End => Answer {
+            number: 0,
+            element: n,
+            place: 0,
+            count: 0,
+        },
+    }
+}
+
+// The first pass of reading: the answer as with room enough.
+fn measure_read(form: Form, text: &[u8]) -> Answer
+    requires { ⌜ length (now text) ≤ limit ⌝ }
+    ensures { λ r. ⌜ r ≡ measured wordsOf (length (now (text .entry))) (readIn form (now (text .entry))) ⌝ }
+{
+    let mut at = 0;
+    let mut n = 0;
+    let mut count = 0;
+    while at < text.len() {
+        let step = step_at(form, text, at);
+        let Step::Element(e, next) = step else {
+            return refusal(step, n);
+        };
+        at = next;
+        n += 1;
+        count += element::words_in(e);
+    }
+    Answer {
+        number: 0,
+        element: n,
+        place: at,
+        count,
+    }
+}
+
+// The second pass of reading, where the text is accepted and there is room.
+fn fill_read(form: Form, text: &[u8], words: &mut [u32])
+    requires { ⌜ roomFor wordsOf (length (now words)) (readIn form (now text)) ⌝ }
+    ensures { λ _. ⌜ now (words .exit) ≡ writtenOf wordsOf (now (words .entry)) (readIn form (now (text .entry))) ⌝ }
+{
+    let mut at = 0;
+    let mut o = 0;
+    while at < text.len() {
+        let step = step_at(form, text, at);
+        let Step::Element(e, next) = step else {
+            return;
+        };
+        o = element::put_words(e, words, o);
+        at = next;
+    }
+}
+
+// The first pass of writing.
+fn measure_write(form: Form, words: &[u32]) -> Answer
+    requires { ⌜ length (now words) ≤ limit ⌝ }
+    ensures { λ r. ⌜ r ≡ measured same (length (now (words .entry))) (writeIn form (now (words .entry))) ⌝ }
+{
+    let mut at = 0;
+    let mut n = 0;
+    let mut count = 0;
+    while at < words.len() {
+        let step = element::element_of(words, at);
+        let Step::Element(e, next) = step else {
+            return refusal(step, n);
+        };
+        let size = element::spelt_size(form, e);
+        if size == 0 {
+            return Answer {
+                number: 10,
+                element: n,
+                place: at,
+                count: 0,
+            };
+        }
+        at = next;
+        n += 1;
+        count += size;
+    }
+    Answer {
+        number: 0,
+        element: n,
+        place: at,
+        count,
+    }
+}
+
+// The second pass of writing, where the words are accepted and there is room.
+fn fill_write(form: Form, words: &[u32], text: &mut [u8])
+    requires { ⌜ roomFor same (length (now text)) (writeIn form (now words)) ⌝ }
+    ensures { λ _. ⌜ now (text .exit) ≡ writtenOf same (now (text .entry)) (writeIn form (now (words .entry))) ⌝ }
+{
+    let mut at = 0;
+    let mut o = 0;
+    while at < words.len() {
+        let step = element::element_of(words, at);
+        let Step::Element(e, next) = step else {
+            return;
+        };
+        o = element::put_spelling(form, e, text, o);
+        at = next;
+    }
+}
+
+// The first pass of converting, after the text was read.
+fn measure_convert(source: Form, target: Form, text: &[u8]) -> Answer
+    requires { ⌜ length (now text) ≤ limit ⌝ }
+    ensures { λ r. ⌜ r ≡ measured same (length (now (text .entry))) (respellIn source target (now (text .entry))) ⌝ }
+{
+    let mut at = 0;
+    let mut n = 0;
+    let mut count = 0;
+    while at < text.len() {
+        let step = step_at(source, text, at);
+        let Step::Element(e, next) = step else {
+            return refusal(step, n);
+        };
+        let size = element::spelt_size(target, e);
+        if size == 0 {
+            return Answer {
+                number: 10,
+                element: n,
+                place: at,
+                count: 0,
+            };
+        }
+        at = next;
+        n += 1;
+        count += size;
+    }
+    Answer {
+        number: 0,
+        element: n,
+        place: at,
+        count,
+    }
+}
+
+// The second pass of converting, where the target holds each element and there is room.
+fn fill_convert(source: Form, target: Form, text: &[u8], out: &mut [u8])
+    requires { ⌜ roomFor same (length (now out)) (respellIn source target (now text)) ⌝ }
+    ensures { λ _. ⌜ now (out .exit) ≡ writtenOf same (now (out .entry)) (respellIn source target (now (text .entry))) ⌝ }
+{
+    let mut at = 0;
+    let mut o = 0;
+    while at < text.len() {
+        let step = step_at(source, text, at);
+        let Step::Element(e, next) = step else {
+            return;
+        };
+        o = element::put_spelling(target, e, out, o);
+        at = next;
+    }
+}
+
+// Reads a text that is within the limit: measured first, and then filled in.
+fn read_in(form: Form, text: &[u8], words: &mut [u32]) -> Answer
+    requires { ⌜ length (now text) ≤ limit ⌝ }
+    ensures { λ r. ⌜ (r ≡ answerOf wordsOf (length (now (text .entry))) (length (now (words .entry))) (readIn form (now (text .entry)))) × (now (words .exit) ≡ writtenOf wordsOf (now (words .entry)) (readIn form (now (text .entry)))) ⌝ }
+{
+    let m = measure_read(form, text);
+    if m.number != 0 {
+        return m;
+    }
+    if words.len() < m.count {
+        return Answer {
+            number: 9,
+            element: 0,
+            place: 0,
+            count: m.count,
+        };
+    }
+    fill_read(form, text, words);
+    m
+}
+
+fn write_in(form: Form, words: &[u32], text: &mut [u8]) -> Answer
+    requires { ⌜ length (now words) ≤ limit ⌝ }
+    ensures { λ r. ⌜ (r ≡ answerOf same (length (now (words .entry))) (length (now (text .entry))) (writeIn form (now (words .entry)))) × (now (text .exit) ≡ writtenOf same (now (text .entry)) (writeIn form (now (words .entry)))) ⌝ }
+{
+    let m = measure_write(form, words);
+    if m.number != 0 {
+        return m;
+    }
+    if text.len() < m.count {
+        return Answer {
+            number: 9,
+            element: 0,
+            place: 0,
+            count: m.count,
+        };
+    }
+    fill_write(form, words, text);
+    m
+}
+
+fn respell_in(source: Form, target: Form, text: &[u8], out: &mut [u8]) -> Answer
+    requires { ⌜ length (now text) ≤ limit ⌝ }
+    ensures { λ r. ⌜ (r ≡ answerOf same (length (now (text .entry))) (length (now (out .entry))) (respellIn source target (now (text .entry)))) × (now (out .exit) ≡ writtenOf same (now (out .entry)) (respellIn source target (now (text .entry)))) ⌝ }
+{
+    let m = measure_convert(source, target, text);
+    if m.number != 0 {
+        return m;
+    }
+    if out.len() < m.count {
+        return Answer {
+            number: 9,
+            element: 0,
+            place: 0,
+            count: m.count,
+        };
+    }
+    fill_convert(source, target, text, out);
+    m
+}
+
+// 01's order: the whole text is read, and only then respelt.
+fn convert_in(source: Form, target: Form, text: &[u8], out: &mut [u8]) -> Answer
+    requires { ⌜ length (now text) ≤ limit ⌝ }
+    ensures { λ r. ⌜ (r ≡ answerOf same (length (now (text .entry))) (length (now (out .entry))) (convertIn source target (now (text .entry)))) × (now (out .exit) ≡ writtenOf same (now (out .entry)) (convertIn source target (now (text .entry)))) ⌝ }
+{
+    let m = measure_read(source, text);
+    if m.number != 0 {
+        return m;
+    }
+    respell_in(source, target, text, out)
+}
+
+// A refusal that carries no place.
+fn bare_refusal(number: usize) -> Answer
+    ensures { λ r. ⌜ r ≡ bare number ⌝ }
+{
+    Answer {
+        number,
+        element: 0,
+        place: 0,
+        count: 0,
+    }
+}
+
+// Reads a whole text. 01's order of refusals: 11, 12, reading, 9.
+pub fn read(form: u32, text: &[u8], words: &mut [u32]) -> Answer
+    ensures { λ r. ⌜ (r ≡ readAnswer form (now (text .entry)) (length (now (words .entry)))) × (now (words .exit) ≡ readWords form (now (text .entry)) (now (words .entry))) ⌝ }
+{
+    let found = alphabet::form_of(form);
+    let FormFound::Is(f) = found else {
+        return bare_refusal(11);
+    };
+    if 0x100000 < text.len() {
+        return bare_refusal(12);
+    }
+    read_in(f, text, words)
+}
+
+// Writes a list of words. 01's order of refusals: 11, 12, 10, 9.
+pub fn write(form: u32, words: &[u32], text: &mut [u8]) -> Answer
+    ensures { λ r. ⌜ (r ≡ writeAnswer form (now (words .entry)) (length (now (text .entry)))) × (now (text .exit) ≡ writeText form (now (words .entry)) (now (text .entry))) ⌝ }
+{
+    let found = alphabet::form_of(form);
+    let FormFound::Is(f) = found else {
+        return bare_refusal(11);
+    };
+    if 0x100000 < words.len() {
+        return bare_refusal(12);
+    }
+    write_in(f, words, text)
+}
+
+// Converts a whole text. 01's order of refusals: 11 (source, then target), 12, reading, 10, 9.
+pub fn convert(source: u32, target: u32, text: &[u8], out: &mut [u8]) -> Answer
+    ensures { λ r. ⌜ (r ≡ convertAnswer source target (now (text .entry)) (length (now (out .entry)))) × (now (out .exit) ≡ convertText source target (now (text .entry)) (now (out .entry))) ⌝ }
+{
+    let from = alphabet::form_of(source);
+    let FormFound::Is(f) = from else {
+        return bare_refusal(11);
+    };
+    let to = alphabet::form_of(target);
+    let FormFound::Is(g) = to else {
+        return bare_refusal(11);
+    };
+    if 0x100000 < text.len() {
+        return bare_refusal(12);
+    }
+    convert_in(f, g, text, out)
+}
+
+// Reads one element. In order: 11, 12, none left, then the element or its refusal.
+pub fn read_element(form: u32, text: &[u8], at: usize) -> Step
+    ensures { λ r. ⌜ r ≡ loneStep form (now (text .entry)) at ⌝ }
+{
+    let found = alphabet::form_of(form);
+    let FormFound::Is(f) = found else {
+        return Step::Refused {
+            number: 11,
+            place: 0,
+            count: 0,
+        };
+    };
+    if 0x100000 < text.len() {
+        return Step::Refused {
+            number: 12,
+            place: 0,
+            count: 0,
+        };
+    }
+    step_at(f, text, at)
+}

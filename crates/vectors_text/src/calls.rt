@@ -1,0 +1,165 @@
+// The functions of `text`, called with a part of a larger room, and what they answer as text.
+use crate::fields::octets_in;
+use crate::fields::words_in;
+use crate::line::put;
+use crate::line::put_after_space;
+use crate::line::put_answer;
+use crate::line::put_number;
+use crate::line::put_place;
+use crate::room::fill_octets;
+use crate::room::fill_words;
+use crate::room::put_octets;
+use crate::room::put_words;
+use element::Element;
+use element::Step;
+use run::Answer;
+
+// The answer to a vector that the program has no room for.
+fn unasked() -> Answer {
+    Answer {
+        number: 99,
+        element: 0,
+        place: 0,
+        count: 0,
+    }
+}
+
+// How many entries are written: none by a refusal.
+fn written(answer: Answer) -> usize {
+    if answer.number == 0 {
+        return answer.count;
+    }
+    0
+}
+
+fn read_into(form: u32, octets: &[u8], words: &mut [u32], room: usize) -> Answer {
+    if words.len() < room {
+        return unasked();
+    }
+    text::read(form, octets, &mut words[0..room])
+}
+
+fn write_into(form: u32, words: &[u32], octets: &mut [u8], room: usize) -> Answer {
+    if octets.len() < room {
+        return unasked();
+    }
+    text::write(form, words, &mut octets[0..room])
+}
+
+fn convert_into(source: u32, target: u32, octets: &[u8], out: &mut [u8], room: usize) -> Answer {
+    if out.len() < room {
+        return unasked();
+    }
+    text::convert(source, target, octets, &mut out[0..room])
+}
+
+fn read_first(form: u32, octets: &[u8], n: usize, words: &mut [u32], room: usize) -> Answer {
+    if octets.len() < n {
+        return unasked();
+    }
+    read_into(form, &octets[0..n], words, room)
+}
+
+fn write_first(form: u32, words: &[u32], n: usize, octets: &mut [u8], room: usize) -> Answer {
+    if words.len() < n {
+        return unasked();
+    }
+    write_into(form, &words[0..n], octets, room)
+}
+
+fn convert_first(
+    source: u32,
+    target: u32,
+    octets: &[u8],
+    n: usize,
+    out: &mut [u8],
+    room: usize,
+) -> Answer {
+    if octets.len() < n {
+        return unasked();
+    }
+    convert_into(source, target, &octets[0..n], out, room)
+}
+
+fn step_first(form: u32, octets: &[u8], n: usize, at: usize) -> Step {
+    if octets.len() < n {
+        return Step::End;
+    }
+    text::read_element(form, &octets[0..n], at)
+}
+
+// The text's answer, and the words that it puts.
+pub(crate) fn answer_reading(out: &mut [u8], form: u32, entries: &[u8], room: usize) -> usize {
+    let mut octets = [0; 512];
+    let n = octets_in(entries, &mut octets);
+    let mut words = [0; 512];
+    fill_words(&mut words);
+    let answer = read_first(form, &octets, n, &mut words, room);
+    let next = put_answer(out, answer);
+    put_words(out, next, &words, written(answer))
+}
+
+// The words' answer, and the octets that it puts.
+pub(crate) fn answer_writing(out: &mut [u8], form: u32, entries: &[u8], room: usize) -> usize {
+    let mut words = [0; 512];
+    let n = words_in(entries, &mut words);
+    let mut octets = [0; 1024];
+    fill_octets(&mut octets);
+    let answer = write_first(form, &words, n, &mut octets, room);
+    let next = put_answer(out, answer);
+    put_octets(out, next, &octets, written(answer))
+}
+
+// The conversion's answer, and the octets that it puts.
+pub(crate) fn answer_converting(
+    out: &mut [u8],
+    source: u32,
+    target: u32,
+    entries: &[u8],
+    room: usize,
+) -> usize {
+    let mut octets = [0; 512];
+    let n = octets_in(entries, &mut octets);
+    let mut converted = [0; 1024];
+    fill_octets(&mut converted);
+    let answer = convert_first(source, target, &octets, n, &mut converted, room);
+    let next = put_answer(out, answer);
+    put_octets(out, next, &converted, written(answer))
+}
+
+// The element's words, and the place after it.
+fn put_read(out: &mut [u8], e: Element, next: usize) -> usize {
+    let mut words = [0; 16];
+    fill_words(&mut words);
+    let n = element::put_words(e, &mut words, 0);
+    let first = put_words(out, 0, &words, n);
+    let second = put(out, first, b' ');
+    let third = put(out, second, b'>');
+    put_after_space(out, third, next)
+}
+
+fn put_refusal(out: &mut [u8], number: usize, place: usize, count: usize) -> usize {
+    let first = put(out, 0, b'!');
+    let second = put_number(out, first, number);
+    let third = put_after_space(out, second, place);
+    put_after_space(out, third, count)
+}
+
+fn put_step(out: &mut [u8], step: Step) -> usize {
+    match step {
+        Step::Element(e, next) => put_read(out, e, next),
+        Step::Refused {
+            number,
+            place,
+            count,
+        } => put_refusal(out, number, place, count),
+        Step::End => put(out, 0, b'.'),
+    }
+}
+
+// What stands at the place of the text.
+pub(crate) fn answer_element(out: &mut [u8], form: u32, entries: &[u8], at: usize) -> usize {
+    let mut octets = [0; 512];
+    let n = octets_in(entries, &mut octets);
+    put_step(out, step_first(form, &octets, n, at))
+}
