@@ -1,19 +1,18 @@
 -- What conversion is worth: it writes the target's canonical spelling of what the text means, and conversions compose.
 -- Assumes nothing.
-use Prim.Native.Nat.{ℕ, _+_, _≤_}
-use mathlib.Core.Path.{_≡_, refl, sym, ap, _∙_, subst}
+use Prim.Native.Nat.{ℕ, _+_}
+use mathlib.Core.Path.{_≡_, refl, ap, _∙_, subst}
 use mathlib.Core.Logic.{_↔_}
 use mathlib.Core.List.{List, [], _∷_, _++_}
 use native.Mathlib.Omega.{arith}
 use lib.ListN.{length}
-use Rattle.run.specs.Head.{Head, element, refused, none, Outcome, accepted, refusal, from, outcome, join}
+use Rattle.run.specs.Head.{Outcome, accepted, refusal, from, outcome, join}
 use Rattle.run.specs.Grammar.{Run, RunOf, done, more}
 use Rattle.run.specs.Answers.{given}
 use Rattle.run.proofs.Outcomes as outcomes
 use Rattle.alphabet.specs.declared.Form.{Form}
 use Rattle.element.specs.declared.Element.{Element}
 use Rattle.element.specs.Grammar.{Spells}
-use Rattle.element.specs.Reading.{headIn}
 use Rattle.element.specs.Spelling.{CanonicalElement, Held, spellElement, spelt, octetsOr10}
 use Rattle.element.proofs.Reader.{reads}
 use Rattle.element.proofs.Writer.{read-held}

@@ -6,9 +6,8 @@ use mathlib.Core.Path.{_≡_, refl, sym, ap, _∙_}
 use mathlib.Core.Logic.{_↔_}
 use mathlib.Core.List.{List, [], _∷_, _++_}
 use lib.ListN.{length}
-use lib.Dec.{leb}
 use borrow.Author.Tests.{le-leb}
-use Rattle.run.specs.Head.{Head, element, refused, none, Outcome, accepted, refusal, outcome, join}
+use Rattle.run.specs.Head.{accepted, refusal, join}
 use Rattle.run.specs.Grammar.{Run, RunOf, done, more, Stopped}
 use Rattle.run.specs.Answers.{answer, countOf, given, answerOf, over, writtenOf}
 use Rattle.run.proofs.Outcomes as outcomes

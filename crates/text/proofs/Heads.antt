@@ -2,12 +2,10 @@
 -- Assumes nothing.
 use Prim.Native.Nat.{ℕ, _+_, _-_, _≤_, _<_}
 use mathlib.Core.Path.{_≡_, refl, sym, ap, _∙_}
-use mathlib.Core.Bool.{Bool, true, false}
-use mathlib.Core.List.{List, [], _∷_, _++_}
+use mathlib.Core.List.{List, [], _++_}
 use native.Mathlib.Omega.{arith}
 use lib.ListN.{length, take, length-take}
 use lib.Dec.{ltb, lit≤}
-use Rattle.run.specs.Choice.{pick}
 use Rattle.run.specs.Head.{Head, element, refused, none}
 use Rattle.run.specs.Grammar.{Begins, Reads}
 use Rattle.run.proofs.Choices.{pick-case}
@@ -18,16 +16,14 @@ use Rattle.alphabet.specs.Sorts.{sortIn}
 use Rattle.alphabet.specs.Spelling.{octetsOf, spellIn}
 use Rattle.sequence.specs.Kinds.{CSI}
 use Rattle.sequence.specs.Reading.{listOf}
-use Rattle.sequence.specs.Spelling.{spellSequence}
 use Rattle.sequence.proofs.Spellings.{size-34}
 use Rattle.element.specs.declared.Element.{Element}
 use Rattle.element.specs.declared.Element.the-variants.{One, Sequence as SequenceOf}
-use Rattle.element.specs.Words.{wordsOf, sequenceOf, isSequence}
-use Rattle.element.specs.Grammar.{Spells}
+use Rattle.element.specs.Words.{wordsOf, isSequence}
 use Rattle.element.specs.Reading.{headIn}
 use Rattle.element.specs.Spelling.{CC, CanonicalElement, Held, isUnderline, isControl, isStart, afterCC, spellWord, spellSequenceWords, spellElement, octetsOr10, spelt}
 use Rattle.element.proofs.Reader.{reads}
-use Rattle.element.proofs.Writer.{Some, canonical-given, canonical-some, canonical-proper, spelt-some, Given-octets, given-octets, octets-refused, octets-not-none, spells-exactly, read-held}
+use Rattle.element.proofs.Writer.{Some, canonical-given, canonical-some, canonical-proper, spelt-some, given-octets, octets-refused, octets-not-none, spells-exactly, read-held}
 use Rattle.element.proofs.Sizes.{sequence-fine}
 use Rattle.text.specs.Outcomes.{Respells, respellHead}
 

@@ -1,9 +1,9 @@
-pub mod Passed
-pub mod Heads
-pub mod Loops
-pub mod Writes
-pub mod Rooms
-pub mod Edges
+mod Passed
+mod Heads
+mod Loops
+mod Writes
+mod Rooms
+mod Edges
 pub mod OneAnswer
 pub mod Demands
 pub mod Conversion

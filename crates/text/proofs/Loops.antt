@@ -1,20 +1,19 @@
 -- From what a step answers to what a loop knows.
 -- Assumes nothing.
-use Prim.Native.Nat.{ℕ, suc, _+_, _*_, _≤_, _<_}
-use mathlib.Core.Path.{_≡_, refl, sym, ap, ap₂, _∙_, subst}
-use mathlib.Core.Bool.{Bool, true, false}
+use Prim.Native.Nat.{ℕ, suc, _+_, _≤_, _<_}
+use mathlib.Core.Path.{_≡_, refl, sym, ap, _∙_}
+use mathlib.Core.Bool.{true}
 use mathlib.Core.Logic.{⊎-elim}
-use mathlib.Core.List.{List, [], _∷_, _++_}
+use mathlib.Core.List.{List, [], _∷_}
 use native.Mathlib.Omega.{arith}
 use lib.ListN.{length, getD, drop}
 use lib.Seq.{drop-cons}
-use lib.Dec.{eqb, lit≤}
+use lib.Dec.{lit≤}
 use borrow.Author.Tests.{eqb-true, le-leb}
 use types.Run.{OneOf}
 use denote.Enum.Declared.{tagOf}
-use Rattle.run.specs.Head.{Head, element, refused, none, Outcome, outcome}
-use Rattle.run.specs.declared.Answer.{Answer}
-use Rattle.run.specs.Answers.{answer, countOf}
+use Rattle.run.specs.Head.{Head, element, refused, none}
+use Rattle.run.specs.Answers.{countOf}
 use Rattle.alphabet.specs.declared.Form.{Form}
 use Rattle.alphabet.specs.declared.Sort.{Sort}
 use Rattle.alphabet.specs.declared.Sort.the-variants.{Graphic, Mark, Underline, Shift, Control, SequenceStart, Refused}

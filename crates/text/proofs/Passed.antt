@@ -1,16 +1,16 @@
 -- What a loop that goes through a list, element after element, knows at a place: over any head that keeps the record of promises, so once for
 -- reading, writing and converting, and for measuring and filling.
 -- Assumes nothing.
-use Prim.Native.Nat.{ℕ, suc, _+_, _*_, _-_, _≤_, _<_}
-use mathlib.Core.Path.{_≡_, refl, sym, ap, ap₂, _∙_, subst, subst₂}
-use mathlib.Core.List.{List, [], _∷_, _++_, append-assoc, append-nil}
+use Prim.Native.Nat.{ℕ, _+_, _*_, _≤_, _<_}
+use mathlib.Core.Path.{_≡_, refl, sym, ap, ap₂, _∙_, subst}
+use mathlib.Core.List.{List, [], _∷_, _++_, append-nil}
 use native.Mathlib.Nat.{add-zero}
 use native.Mathlib.Omega.{arith}
-use lib.ListN.{length, take, drop, length-append, length-drop, drop-of-length-le}
+use lib.ListN.{length, drop, length-append, length-drop, drop-of-length-le}
 use lib.Seq.{drop-append-seam, drop-drop}
 use borrow.Author.Tests.{le-leb}
 use Rattle.run.specs.Head.{Head, element, refused, none, Outcome, accepted, refusal, join, outcome}
-use Rattle.run.specs.Grammar.{Begins, Reads}
+use Rattle.run.specs.Grammar.{Reads}
 use Rattle.run.specs.declared.Answer.{Answer}
 use Rattle.run.specs.Answers.{answer, countOf, given, writtenOf}
 use Rattle.run.specs.Put.{Put}

@@ -1,14 +1,13 @@
 -- What the loops that write and convert know: over any head of elements that is spelt in a form, so once for the two.
 -- Assumes nothing.
-use Prim.Native.Nat.{ℕ, suc, _+_, _*_, _≤_, _<_}
-use mathlib.Core.Path.{_≡_, refl, sym, ap, ap₂, _∙_, subst}
-use mathlib.Core.List.{List, [], _∷_, _++_}
-use native.Mathlib.Nat.{add-zero}
+use Prim.Native.Nat.{ℕ, _+_, _<_}
+use mathlib.Core.Path.{_≡_, refl, ap, _∙_, subst}
+use mathlib.Core.List.{List, [], _∷_}
 use native.Mathlib.Omega.{arith}
 use lib.ListN.{length, drop}
 use types.Run.{OneOf}
 use denote.Enum.Declared.{tagOf}
-use Rattle.run.specs.Head.{Head, element, refused, none, Outcome, outcome}
+use Rattle.run.specs.Head.{Head, element, refused, none}
 use Rattle.run.specs.Grammar.{Reads}
 use Rattle.run.specs.declared.Answer.{Answer}
 use Rattle.run.specs.Answers.{answer, countOf}
@@ -16,7 +15,7 @@ use Rattle.alphabet.specs.declared.Form.{Form}
 use Rattle.element.proofs.Step.{the-type}
 use Rattle.element.specs.declared.Element.{Element}
 use Rattle.element.specs.declared.Step.{Step}
-use Rattle.element.specs.declared.Step.the-variants.{Element as Read, Refused as Stopped, End}
+use Rattle.element.specs.declared.Step.the-variants.{Element as Read}
 use Rattle.element.specs.Words.{wordHead}
 use Rattle.element.specs.Reading.{headIn, stepOf, stepAt}
 use Rattle.element.specs.Spelling.{Writes, spellElement, octetsOr10, spelt, spellHead, wordStep, wordsAt}
