@@ -37,6 +37,15 @@ same s = s
 
 -- ---- reading: 11, 12, the reading's refusal, 9
 
+-- an answer as with room enough
+abbrev pub measured : {A : Type 0} → (A → List ℕ) → ℕ → Outcome A → Answer
+measured gives n (accepted es) = answer 0 (length es) n (length (given gives es))
+measured gives n (refusal r e p d) = answer r e p (countOf r d)
+
+unfoldable pub measureAnswer : ℕ → List ℕ → Answer
+measureAnswer form text =
+    inForm (formOf form) (bare 11) (λ f. within-limit text (bare 12) (measured wordsOf (length text) (readIn f text)))
+
 unfoldable pub readAnswer : ℕ → List ℕ → ℕ → Answer
 readAnswer form text room =
     inForm (formOf form) (bare 11) (λ f. within-limit text (bare 12) (answerOf wordsOf (length text) room (readIn f text)))
@@ -74,11 +83,6 @@ loneStep form text at =
     inForm (formOf form) (Stopped 11 0 0) (λ f. within-limit text (Stopped 12 0 0) (stepAt f text at))
 
 -- ---- parts of the code
-
--- the answer of a measuring: as with room enough
-abbrev pub measured : {A : Type 0} → (A → List ℕ) → ℕ → Outcome A → Answer
-measured gives n (accepted es) = answer 0 (length es) n (length (given gives es))
-measured gives n (refusal r e p d) = answer r e p (countOf r d)
 
 -- the outcome is accepted, and a room of r entries holds what it gives
 abbrev pub roomFor : {A : Type 0} → (A → List ℕ) → ℕ → Outcome A → Type 0

@@ -11,7 +11,7 @@ ghost use Rattle.run.specs.Answers.{bare, answerOf, writtenOf};
 ghost use Rattle.element.specs.Words.{wordsOf};
 ghost use Rattle.element.specs.Reading.{stepAt};
 ghost use Rattle.text.specs.Outcomes.{readIn, writeIn, respellIn, convertIn};
-ghost use Rattle.text.specs.Answers.{limit, same, measured, roomFor, refusedAs, readAnswer, readWords, writeAnswer, writeText, convertAnswer, convertText, loneStep};
+ghost use Rattle.text.specs.Answers.{limit, same, measured, roomFor, refusedAs, measureAnswer, readAnswer, readWords, writeAnswer, writeText, convertAnswer, convertText, loneStep};
 
 // Reads the element at a place, straight through where it is a plain octet.
 fn step_at(form: Form, text: &[u8], at: usize) -> Step
@@ -283,6 +283,20 @@ fn bare_refusal(number: usize) -> Answer
         place: 0,
         count: 0,
     }
+}
+
+// What a whole text comes to, as with room enough: 11, 12, reading, or its elements and how many words they are.
+pub fn measure(form: u32, text: &[u8]) -> Answer
+    ensures { λ r. ⌜ r ≡ measureAnswer form (now (text .entry)) ⌝ }
+{
+    let found = alphabet::form_of(form);
+    let FormFound::Is(f) = found else {
+        return bare_refusal(11);
+    };
+    if 0x100000 < text.len() {
+        return bare_refusal(12);
+    }
+    measure_read(f, text)
 }
 
 // Reads a whole text. 01's order of refusals: 11, 12, reading, 9.
