@@ -5,10 +5,12 @@ use mathlib.Core.Path.{_≡_, refl, sym, ap, _∙_}
 use mathlib.Core.List.{List, [], _∷_, _++_}
 use native.Mathlib.Omega.{arith}
 use lib.ListN.{length, drop, length-append, length-drop, drop-of-length-le}
+use lib.Dec.{lit≤}
 use Rattle.run.specs.Head.{Head, element, refused, none}
 use Rattle.run.specs.Grammar.{Begins}
 use Rattle.run.specs.Answers.{answer}
 use Rattle.alphabet.specs.declared.Form.{Form}
+use Rattle.sequence.specs.Grammar.{RefusesSequence}
 use Rattle.element.specs.declared.Element.{Element}
 use Rattle.element.specs.declared.Step.{Step}
 use Rattle.element.specs.declared.Step.the-variants.{Element as Read, Refused as Stopped, End}
@@ -19,7 +21,29 @@ use Rattle.element.specs.Spelling.{CanonicalElement}
 use Rattle.element.proofs.Reader.{reads, refuses-exactly-by, begins-head}
 use Rattle.element.proofs.Writer.{canonical-spells}
 
+sequence-number : {s : List ℕ} {r d : ℕ} → RefusesSequence s r d → (1 ≤ r) × (r ≤ 8)
+sequence-number (RefusesSequence.ends i) = (lit≤ tt, lit≤ tt)
+sequence-number (RefusesSequence.not-allowed b t i n) = (lit≤ tt, lit≤ tt)
+sequence-number (RefusesSequence.passes b t i n) = (lit≤ tt, lit≤ tt)
+sequence-number (RefusesSequence.fortieth b t i l g) = (lit≤ tt, lit≤ tt)
+
 module _ (f : Form) where
+  -- Reading refuses with 1 to 8 alone.
+  pub reading-number : {s : List ℕ} {r d : ℕ} → Refuses f s r d → (1 ≤ r) × (r ≤ 8)
+  reading-number (Refuses.begins-nothing e) = (lit≤ tt, lit≤ tt)
+  reading-number (Refuses.codes-neither s e) = (lit≤ tt, lit≤ tt)
+  reading-number (Refuses.escape e) = (lit≤ tt, lit≤ tt)
+  reading-number (Refuses.not-listed l t a e n) = (lit≤ tt, lit≤ tt)
+  reading-number (Refuses.may-not u n) = (lit≤ tt, lit≤ tt)
+  reading-number (Refuses.ends-after-mark a) = (lit≤ tt, lit≤ tt)
+  reading-number (Refuses.ends-after-shift s) = (lit≤ tt, lit≤ tt)
+  reading-number (Refuses.ends-after-underline u) = (lit≤ tt, lit≤ tt)
+  reading-number (Refuses.high e) = (lit≤ tt, lit≤ tt)
+  reading-number (Refuses.high-after-shift s e) = (lit≤ tt, lit≤ tt)
+  reading-number (Refuses.high-follower l t a e) = (lit≤ tt, lit≤ tt)
+  reading-number (Refuses.high-after-underline u e) = (lit≤ tt, lit≤ tt)
+  reading-number (Refuses.in-sequence s k) = sequence-number k
+
   -- At the end no element begins, and nothing is refused: with `never-both`, the three of `one-of-three` exclude each other.
   pub end-no-element : (e : Element) (k : ℕ) → Begins (Spells f) [] e k → ⊥
   end-no-element e k b =

@@ -35,7 +35,7 @@ use Rattle.element.specs.declared.Element.{Element}
 use Rattle.element.specs.declared.Element.the-variants.{One, Sequence as SequenceOf}
 use Rattle.element.specs.Words.{graphicWord, controlWord, headWord, sequenceElement, wordsOf, sequenceOf, isSequence, wordHead}
 use Rattle.element.specs.Grammar.{Awaits, Spells}
-use Rattle.element.specs.Spelling.{CC, CanonicalElement, Held, Writes, isUnderline, isControl, isStart, afterCC, spellWord, spellSequenceWords, spellElement, octetsOr10, spelt, spellHead}
+use Rattle.element.specs.Spelling.{CC, CanonicalElement, Held, Writes, NoneHeld, isUnderline, isControl, isStart, afterCC, spellWord, spellSequenceWords, spellElement, octetsOr10, spelt, spellHead}
 use Rattle.element.proofs.Words.{values-back, sequence-back, is-sequence, words-of, words-head, one-head, Word-view, a-word, a-sequence, no-element, no-word, word-view}
 
 -- ---- tests of a sort
@@ -372,3 +372,33 @@ module _ (f : Form) where
         numbered = λ ws r d q. omega (arith, writer-refuses ws r d q);
         inside = λ ws r d q. omega (arith, writer-refuses ws r d q);
       }
+
+  words-held : {p s : List ℕ} → Writes f p s → (e : Element) × Held f e × (p ≡ wordsOf e)
+  words-held (Writes.writes {e} h k) = (e, h, refl)
+
+  some-words : (ws : List ℕ) (r d : ℕ) → spellHead f ws ≡ refused r d → 0 < length ws
+  some-words [] r d q = let e = writer-reads .ends in let w : _≡_ {A = ℕ} 0 1 = cc in absurd (omega arith)
+  some-words (w ∷ ws) r d q = omega arith
+
+  not-written : (ws : List ℕ) (r d : ℕ) → spellHead f ws ≡ refused r d → (e : Element) (t : List ℕ) → Held f e → ws ≡ wordsOf e ++ t → ⊥
+  not-written ws r d q e t (Held.held {s} k) w =
+      let found : spellHead f ws ≡ element s (length (wordsOf e)) = ap (spellHead f) w ∙ writer-reads .finds (wordsOf e) t s (Writes.writes (Held.held k) k) in
+      let z : _≡_ {A = ℕ} 0 1 = cc in
+      omega arith
+
+  -- Words are refused exactly where no words of an element that the form writes stand first: with 10, at the first word.
+  pub writer-refuses-exactly : (ws : List ℕ) (r d : ℕ) → (spellHead f ws ≡ refused r d) ↔ ((r ≡ 10) × (d ≡ 0) × NoneHeld f ws)
+  writer-refuses-exactly ws r d = (forth, back (spellHead f ws) refl)
+    where
+      forth : spellHead f ws ≡ refused r d → (r ≡ 10) × (d ≡ 0) × NoneHeld f ws
+      forth q =
+          let z = writer-refuses ws r d q in
+          (sym (z .0), sym (z .1), record { some = some-words ws r d q; not-held = not-written ws r d q })
+
+      back : (h : Head (List ℕ)) → spellHead f ws ≡ h → (r ≡ 10) × (d ≡ 0) × NoneHeld f ws → spellHead f ws ≡ refused r d
+      back (element s k) q n =
+          let b = writer-reads .found ws s k q in
+          let w = words-held (b .spells) in
+          absurd (n .2 .not-held (w .0) (b .rest) (w .1) (b .whole ∙ ap (λ (l : List ℕ). l ++ b .rest) (w .2)))
+      back (refused r′ d′) q n = let z = writer-refuses ws r′ d′ q in q ∙ ap₂ refused (sym (z .0) ∙ sym (n .0)) (sym (z .1) ∙ sym (n .1))
+      back none q n = absurd (omega (arith, n .2 .some, ap length (writer-reads .goes ws q)))

@@ -1,6 +1,6 @@
 -- The canonical spelling of an element, what a form holds, and what a writer answers.
 -- Assumes nothing.
-use Prim.Native.Nat.{ℕ, _+_, _-_}
+use Prim.Native.Nat.{ℕ, _+_, _-_, _<_}
 use mathlib.Core.Path.{_≡_}
 use mathlib.Core.Bool.{Bool, true, false}
 use mathlib.Core.List.{List, [], _∷_, _++_}
@@ -48,6 +48,12 @@ pub data Held (f : Form) : Element → Type 0 where
 -- these words are written as these octets
 pub data Writes (f : Form) : List ℕ → List ℕ → Type 0 where
   writes : {e : Element} {s : List ℕ} → Held f e → CanonicalElement f s e → Writes f (wordsOf e) s
+
+-- 10, of words: "an element not in the target form, or words that are no element or are cut off". No words of an element that the form writes
+-- stand first.
+pub record NoneHeld (f : Form) (words : List ℕ) : Type 0 where
+  pub some : 0 < length words
+  pub not-held : (e : Element) (t : List ℕ) → Held f e → words ≡ wordsOf e ++ t → ⊥
 
 -- ---- the definition that gives it: no octets where the form does not hold the element
 

@@ -1,7 +1,7 @@
 -- The laws of a whole list's outcome, over any head that finds exactly the spellings of a grammar: once, for reading and for writing.
 -- Assumes nothing.
 use mathlib.Core.Logic.{_↔_}
-use mathlib.Core.Path.{_≡_, refl, sym, _∙_, ap, ap₂}
+use mathlib.Core.Path.{_≡_, refl, sym, _∙_, ap, ap₂, subst}
 use mathlib.Core.List.{List, [], _∷_, _++_, append-assoc, append-nil}
 use Prim.Native.Nat.{ℕ, zero, suc, _+_, _-_, _<_, _≤_}
 use native.Mathlib.Nat.{add-assoc, zero-add, add-zero}
@@ -28,11 +28,33 @@ from-drop head [] (suc k) = refl
 from-drop head (b ∷ s) zero = refl
 from-drop head (b ∷ s) (suc k) = from-drop head s k
 
+-- two runs joined are a run of both lists of elements
+pub run-append : {A : Type 0} {S : List ℕ → A → Type 0} {s t : List ℕ} {ps qs : List (List ℕ)} {es fs : List A} → Run S s ps es → Run S t qs fs → RunOf S (s ++ t) (es ++ fs)
+run-append {qs = qs} done q = (qs, q)
+run-append {S = S} {t = t} {fs = fs} (more {p} {s} {ps} {e} {es} sp r) q =
+    let i = run-append r q in subst (λ (l : List ℕ). RunOf S l (e ∷ es ++ fs)) (sym (append-assoc p s t)) (p ∷ i .0, more sp (i .1))
+
 -- a refusal has a number, and its places are places of a list of n entries, or its end
 pub record Placed (n r p d : ℕ) : Type 0 where
   pub number : 0 < r
   pub place : p ≤ n
   pub deciding : d ≤ n
+
+-- the same stop, by another rule for what is left
+pub stopped-by : {A : Type 0} {S : List ℕ → A → Type 0} {H K : List ℕ → ℕ → Type 0} {s : List ℕ} {n p d : ℕ} (h : Stopped S H s n p d) → K (h .rest) (h .behind) → Stopped S K s n p d
+stopped-by h k =
+    record {
+      front = h .front;
+      rest = h .rest;
+      elements = h .elements;
+      behind = h .behind;
+      whole = h .whole;
+      run = h .run;
+      here = k;
+      element-number = h .element-number;
+      first-place = h .first-place;
+      deciding = h .deciding;
+    }
 
 module _ {A : Type 0} (head : List ℕ → Head A) (S : List ℕ → A → Type 0) (laws : Reads head S) where
   pub outcome-none : outcome head [] ≡ accepted []
@@ -145,7 +167,7 @@ module _ {A : Type 0} (head : List ℕ → Head A) (S : List ℕ → A → Type 
   pub joined-refused : (s t : List ℕ) (es : List A) (r n p d : ℕ) → outcome head s ≡ accepted es → outcome head t ≡ refusal r n p d → outcome head (s ++ t) ≡ refusal r (length es + n) (length s + p) (length s + d)
   joined-refused s t es r n p d h q = joined s t es h ∙ rw q
 
-  reading-stopped : {s : List ℕ} {x : Outcome A} → Reading s x → (r n p d : ℕ) → x ≡ refusal r n p d → Stopped head S s r n p d
+  reading-stopped : {s : List ℕ} {x : Outcome A} → Reading s x → (r n p d : ℕ) → x ≡ refusal r n p d → Stopped S (λ rest b. head rest ≡ refused r b) s n p d
   reading-stopped at-none r n p d q = let z : _≡_ {A = ℕ} 0 1 = cc in absurd (omega arith)
   reading-stopped (at-more {x = accepted fs} sp x) r n p d q = let z : _≡_ {A = ℕ} 0 1 = cc in absurd (omega arith)
   reading-stopped (at-more {p = f} {t} {e = a} {x = refusal r₀ n₀ p₀ d₀} sp x) r n p d q =
@@ -183,7 +205,7 @@ module _ {A : Type 0} (head : List ℕ → Head A) (S : List ℕ → A → Type 
         deciding = sym (zero-add d);
       }
 
-  stopped-refused : {s : List ℕ} {r n p d : ℕ} → Stopped head S s r n p d → outcome head s ≡ refusal r n p d
+  stopped-refused : {s : List ℕ} {r n p d : ℕ} → Stopped S (λ rest b. head rest ≡ refused r b) s n p d → outcome head s ≡ refusal r n p d
   stopped-refused {s} {r} {n} {p} {d} h =
       ap (outcome head) (h .whole)
       ∙ run-join (h .run .1) (h .rest)
@@ -192,8 +214,18 @@ module _ {A : Type 0} (head : List ℕ → Head A) (S : List ℕ → A → Type 
 
   -- A list is refused exactly when, behind a run of elements, what is left is refused at its head: what stands before the refusal is
   -- accepted, with exactly as many elements as it says.
-  pub refuses : (s : List ℕ) (r n p d : ℕ) → (outcome head s ≡ refusal r n p d) ↔ Stopped head S s r n p d
+  pub refuses : (s : List ℕ) (r n p d : ℕ) → (outcome head s ≡ refusal r n p d) ↔ Stopped S (λ rest b. head rest ≡ refused r b) s n p d
   refuses s r n p d = (reading-stopped (reading s) r n p d, stopped-refused)
+
+  -- The same by any rule that says exactly what the head refuses.
+  pub refuses-by : (Here : ℕ → List ℕ → ℕ → Type 0) → ((rest : List ℕ) (r b : ℕ) → (head rest ≡ refused r b) ↔ Here r rest b) → (s : List ℕ) (r n p d : ℕ) → (outcome head s ≡ refusal r n p d) ↔ Stopped S (Here r) s n p d
+  refuses-by Here by s r n p d = (forth, back)
+    where
+      forth : outcome head s ≡ refusal r n p d → Stopped S (Here r) s n p d
+      forth q = let h = refuses s r n p d .0 q in stopped-by h (by (h .rest) r (h .behind) .0 (h .here))
+
+      back : Stopped S (Here r) s n p d → outcome head s ≡ refusal r n p d
+      back h = refuses s r n p d .1 (stopped-by h (by (h .rest) r (h .behind) .1 (h .here)))
 
   -- What stands before a refusal is accepted, with exactly as many elements as it says.
   pub before-refusal : (s : List ℕ) (r n p d : ℕ) → outcome head s ≡ refusal r n p d → (front : List ℕ) × (rest : List ℕ) × (es : List A) × (s ≡ front ++ rest) × (outcome head front ≡ accepted es) × (length es ≡ n) × (length front ≡ p)

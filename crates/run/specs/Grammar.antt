@@ -39,15 +39,16 @@ pub record Reads {A : Type 0} (head : List ℕ → Head A) (S : List ℕ → A �
   pub numbered : (s : List ℕ) (r d : ℕ) → head s ≡ refused r d → 0 < r
   pub inside : (s : List ℕ) (r d : ℕ) → head s ≡ refused r d → d ≤ length s
 
--- how a list is refused: a run of elements, as many as the refusal says, stands before its place; what is left is refused at its head
-pub record Stopped {A : Type 0} (head : List ℕ → Head A) (S : List ℕ → A → Type 0) (s : List ℕ) (r n p d : ℕ) : Type 0 where
+-- How a list is refused: a run of elements, as many as the refusal says, stands before its place, and what is left is refused at its head:
+-- `Here` says so of what is left, and how far behind its first entry the deciding one stands.
+pub record Stopped {A : Type 0} (S : List ℕ → A → Type 0) (Here : List ℕ → ℕ → Type 0) (s : List ℕ) (n p d : ℕ) : Type 0 where
   pub front : List ℕ
   pub rest : List ℕ
   pub elements : List A
   pub behind : ℕ
   pub whole : s ≡ front ++ rest
   pub run : RunOf S front elements
-  pub here : head rest ≡ refused r behind
+  pub here : Here rest behind
   pub element-number : n ≡ length elements
   pub first-place : p ≡ length front
   pub deciding : d ≡ length front + behind

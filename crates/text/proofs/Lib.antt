@@ -4,7 +4,8 @@ mod Loops
 mod Writes
 mod Rooms
 mod Edges
-pub mod OneAnswer
-pub mod Demands
-pub mod Conversion
+mod Tables
+mod Converting
+mod Lone
 pub mod Readings
+pub mod Demands

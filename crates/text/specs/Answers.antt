@@ -13,9 +13,9 @@ use Rattle.alphabet.specs.declared.FormFound.{FormFound}
 use Rattle.alphabet.specs.declared.FormFound.the-variants.{Is, Nothing}
 use Rattle.alphabet.specs.Forms.{formOf}
 use Rattle.element.specs.declared.Step.{Step}
-use Rattle.element.specs.declared.Step.the-variants.{Element as Read, Refused as Stopped, End}
+use Rattle.element.specs.declared.Step.the-variants.{Refused as Stopped}
 use Rattle.element.specs.Words.{wordsOf}
-use Rattle.element.specs.Reading.{stepAt}
+use Rattle.element.specs.Reading.{stepAt, stepAnswer}
 use Rattle.text.specs.Outcomes.{readIn, writeIn, convertIn}
 
 -- 12: "input over 1,048,576 entries"
@@ -89,8 +89,6 @@ abbrev pub roomFor : {A : Type 0} → (A → List ℕ) → ℕ → Outcome A →
 roomFor gives r (accepted es) = length (given gives es) ≤ r
 roomFor gives r (refusal n e p d) = ⊥
 
--- the answer for a step that is no element, after n elements
+-- "A lone read's refusal has element 0; the text reader puts its own count there": the answer of a step after n elements
 abbrev pub refusedAs : ℕ → Step → Answer
-refusedAs n (Read e k) = answer 0 n 0 0
-refusedAs n (Stopped r p c) = answer r n p c
-refusedAs n End = answer 0 n 0 0
+refusedAs n step = answer (stepAnswer step .number) n (stepAnswer step .place) (stepAnswer step .count)

@@ -26,16 +26,16 @@ fn step_at(form: Form, text: &[u8], at: usize) -> Step
     element::element_at(form, text, at)
 }
 
-// 01: "The text reader puts its own count there": a refusal after n elements.
+// 01: "the text reader puts its own count there": a step's answer, after n elements.
 fn refusal(step: Step, n: usize) -> Answer
     ensures { λ r. ⌜ r ≡ refusedAs n step ⌝ }
 {
     match step {
-        Step::Element(_, _) => Answer {
+        Step::Element(e, next) => Answer {
             number: 0,
             element: n,
-            place: 0,
-            count: 0,
+            place: next,
+            count: element::words_in(e),
         },
         Step::Refused {
             number,
