@@ -1,0 +1,4 @@
+mod Tables
+mod Headers
+mod Parts
+mod Writes

@@ -1,0 +1,67 @@
+-- What writing a case answers, and what it leaves.
+-- Assumes nothing.
+use Prim.Native.Nat.{ℕ, _+_, _*_, _≤_, _<_}
+use mathlib.Core.Path.{_≡_, refl, sym, ap, _∙_}
+use mathlib.Core.Bool.{Bool, true, false}
+use mathlib.Core.List.{List, _++_}
+use native.Mathlib.Omega.{arith}
+use lib.Dec.{eqb}
+use lib.ListN.{length, length-append}
+use borrow.Author.Tests.{eqb-true, le-leb, lt-leb}
+use Rattle.run.specs.Choice.{pick}
+use Rattle.run.specs.declared.Answer.{Answer}
+use Rattle.run.specs.Answers.{answer, bare, given}
+use Rattle.run.specs.Put.{Put}
+use Rattle.run.proofs.Puts.{put-both, put-over}
+use Rattle.alphabet.specs.declared.Form.{Form}
+use Rattle.alphabet.specs.declared.Form.the-variants.{Eight, Seven, Basic}
+use Rattle.alphabet.specs.declared.FormFound.{FormFound}
+use Rattle.alphabet.specs.declared.FormFound.the-variants.{Is, Nothing}
+use Rattle.alphabet.specs.Forms.{formOf}
+use Rattle.tlx.specs.Layout.{header, big16, caseWith}
+use Rattle.tlx.specs.Writing.{fitting, writeCaseAnswer, writeCaseOctets}
+use Rattle.tlx.proofs.Parts.{table-length}
+
+-- a form's number is an octet
+pub form-small : (form : ℕ) (f : Form) → formOf form ≡ Is f → form ≤ 3
+form-small form f = by (eqb form 1) refl (eqb form 2) refl (eqb form 3) refl
+  where
+    by : (a : Bool) → eqb form 1 ≡ a → (b : Bool) → eqb form 2 ≡ b → (c : Bool) → eqb form 3 ≡ c → pick a (Is Eight) (pick b (Is Seven) (pick c (Is Basic) Nothing)) ≡ Is f → form ≤ 3
+    by true p b q c r e = omega (arith, eqb-true form 1 p)
+    by false p true q c r e = omega (arith, eqb-true form 2 q)
+    by false p false q true r e = omega (arith, eqb-true form 3 r)
+    by false p false q false r e = let z : _≡_ {A = ℕ} 0 1 = cc in absurd (omega arith)
+
+-- "Size is exactly 8 + 2 x pages + the lengths"
+pub case-length : (form : ℕ) (lengths octets : List ℕ) → length (caseWith form lengths octets) ≡ 8 + 2 * length lengths + length octets
+case-length form lengths octets =
+    omega (arith, length-append (given big16 lengths) octets, table-length lengths)
+
+module _ (form : ℕ) (lengths octets case : List ℕ) where
+  abbrev Promised : Answer → List ℕ → Type 0
+  Promised r case′ = (r ≡ writeCaseAnswer form lengths octets (length case)) × (case′ ≡ writeCaseOctets form lengths octets case)
+
+  pub no-form : (r : Answer) → r ≡ bare 11 → formOf form ≡ Nothing → Promised r case
+  unfolding writeCaseAnswer writeCaseOctets
+  no-form r e q = (e ∙ sym (simp q), sym (simp q))
+
+  module _ (f : Form) (is-form : formOf form ≡ Is f) where
+    pub unfit : (r : Answer) → r ≡ bare 15 → fitting lengths (length octets) ≡ false → Promised r case
+    unfolding writeCaseAnswer writeCaseOctets
+    unfit r e q = (e ∙ sym (simp (is-form, q)), sym (simp (is-form, q)))
+
+    module _ (fits : fitting lengths (length octets) ≡ true) where
+      pub short : length case < 8 + 2 * length lengths + length octets → Promised (answer 9 0 0 (8 + 2 * length lengths + length octets)) case
+      unfolding writeCaseAnswer writeCaseOctets
+      short h =
+          let n = case-length form lengths octets in
+          let l = lt-leb (length (caseWith form lengths octets)) (length case) (omega arith) in
+          (sym (simp (is-form, fits, l) (ap (answer 9 0 0) n)), sym (simp (is-form, fits, l)))
+
+      pub written : 8 + 2 * length lengths + length octets ≤ length case → (a b d : List ℕ) (i j k : ℕ) → Put case 0 (header 1 form (length lengths)) a i → Put a i (given big16 lengths) b j → Put b j octets d k → Promised (answer 0 0 (length octets) (8 + 2 * length lengths + length octets)) d
+      unfolding writeCaseAnswer writeCaseOctets
+      written h a b d i j k p q r =
+          let n = case-length form lengths octets in
+          let m : length (caseWith form lengths octets) ≤ length case = omega arith in
+          let l = le-leb (length (caseWith form lengths octets)) (length case) m in
+          (sym (simp (is-form, fits, l) (ap (answer 0 0 (length octets)) n)), put-over (put-both p (put-both q r)) m ∙ sym (simp (is-form, fits, l)))
