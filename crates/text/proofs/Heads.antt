@@ -4,7 +4,7 @@ use Prim.Native.Nat.{ℕ, _+_, _-_, _≤_, _<_}
 use mathlib.Core.Path.{_≡_, refl, sym, ap, _∙_}
 use mathlib.Core.List.{List, [], _++_}
 use native.Mathlib.Omega.{arith}
-use lib.ListN.{length, take, length-take}
+use lib.ListN.{length, take}
 use lib.Dec.{ltb, lit≤}
 use Rattle.run.specs.Head.{Head, element, refused, none}
 use Rattle.run.specs.Grammar.{Begins, Reads}
@@ -19,7 +19,7 @@ use Rattle.sequence.specs.Reading.{listOf}
 use Rattle.sequence.proofs.Spellings.{size-34}
 use Rattle.element.specs.declared.Element.{Element}
 use Rattle.element.specs.declared.Element.the-variants.{One, Sequence as SequenceOf}
-use Rattle.element.specs.Words.{wordsOf, isSequence}
+use Rattle.element.specs.Words.{isSequence}
 use Rattle.element.specs.Reading.{headIn}
 use Rattle.element.specs.Spelling.{CC, CanonicalElement, Held, isUnderline, isControl, isStart, afterCC, spellWord, spellSequenceWords, spellElement, octetsOr10, spelt}
 use Rattle.element.proofs.Reader.{reads}
@@ -28,10 +28,6 @@ use Rattle.element.proofs.Sizes.{sequence-fine}
 use Rattle.text.specs.Outcomes.{Respells, respellHead}
 
 -- ---- how much an element gives
-
-pub words-short : (e : Element) → length (wordsOf e) ≤ 34
-words-short (One w) = lit≤ tt
-words-short (SequenceOf h n vs) = omega (arith, length-take n (listOf vs))
 
 abbrev Short : List ℕ → Type 0
 Short s = length s ≤ 34

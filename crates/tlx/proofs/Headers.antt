@@ -1,6 +1,6 @@
 -- The laws of a header: what stands in its octets, and what is answered of it.
 -- Assumes nothing.
-use Prim.Native.Nat.{ℕ, zero, suc, _+_, _*_, _-_, _≤_, _<_}
+use Prim.Native.Nat.{ℕ, _+_, _*_, _-_, _≤_, _<_}
 use mathlib.Core.Path.{_≡_, refl, sym, ap, ap₂, _∙_}
 use mathlib.Core.Bool.{Bool, true, false}
 use mathlib.Core.List.{List, [], _∷_}
@@ -66,7 +66,7 @@ tests size marked version form pages sum =
 abbrev pub lengthsFor : List ℕ → ℕ → List ℕ
 lengthsFor case pages = lengthsIn version-1 pages (drop 8 case)
 
-part16 : (case : List ℕ) (at : ℕ) → at + 1 < 8 → number16 (take 8 case) at ≡ number16 case at
+pub part16 : (case : List ℕ) (at : ℕ) → at + 1 < 8 → number16 (take 8 case) at ≡ number16 case at
 part16 case at h =
     ap₂ (λ (a b : ℕ). 0x100 * a + b) (getD-take 8 case at 0 (omega arith)) (getD-take 8 case (at + 1) 0 (omega arith))
 

@@ -2,3 +2,7 @@ mod Tables
 mod Headers
 mod Parts
 mod Writes
+mod Pages
+mod Fills
+mod Rooms
+mod OnePage

@@ -1,21 +1,21 @@
 -- The laws of what a case is written from: the lengths and the octets, entry after entry.
 -- Assumes nothing.
 use Prim.Native.Nat.{ℕ, zero, suc, _+_, _*_, _≤_, _<_}
-use mathlib.Core.Path.{_≡_, refl, sym, ap, ap₂, _∙_}
+use mathlib.Core.Path.{_≡_, refl, sym, ap, _∙_}
 use mathlib.Core.Bool.{Bool, true, false}
 use mathlib.Core.List.{List, [], _∷_, _++_, append-nil}
 use native.Mathlib.Nat.{zero-add, le-of-suc-le-suc}
 use native.Mathlib.Numerals.{add-one}
 use native.Mathlib.Omega.{arith}
 use lib.Dec.{eqb, leb}
-use lib.ListN.{length, take, drop, getD, drop-of-length-le, length-take}
+use lib.ListN.{length, take, drop, getD, drop-of-length-le}
 use lib.Seq.{drop-cons, take-suc, take-all, length-take-le}
-use borrow.Author.Tests.{leb-true, leb-false, eqb-true, le-leb, lt-leb}
+use borrow.Author.Tests.{leb-true, eqb-true, le-leb, lt-leb}
 use Rattle.run.specs.Choice.{pick}
 use Rattle.run.specs.Answers.{given}
 use Rattle.run.specs.Put.{Put}
 use Rattle.run.proofs.Answers.{given-append}
-use Rattle.run.proofs.Puts.{put-none, put-both, put-length, put-as}
+use Rattle.run.proofs.Puts.{put-none, put-both, put-as}
 use Rattle.tlx.specs.Layout.{total, big16}
 use Rattle.tlx.specs.Writing.{noneOver, fitting}
 

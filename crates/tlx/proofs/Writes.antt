@@ -3,7 +3,7 @@
 use Prim.Native.Nat.{ℕ, _+_, _*_, _≤_, _<_}
 use mathlib.Core.Path.{_≡_, refl, sym, ap, _∙_}
 use mathlib.Core.Bool.{Bool, true, false}
-use mathlib.Core.List.{List, _++_}
+use mathlib.Core.List.{List}
 use native.Mathlib.Omega.{arith}
 use lib.Dec.{eqb}
 use lib.ListN.{length, length-append}
@@ -15,7 +15,6 @@ use Rattle.run.specs.Put.{Put}
 use Rattle.run.proofs.Puts.{put-both, put-over}
 use Rattle.alphabet.specs.declared.Form.{Form}
 use Rattle.alphabet.specs.declared.Form.the-variants.{Eight, Seven, Basic}
-use Rattle.alphabet.specs.declared.FormFound.{FormFound}
 use Rattle.alphabet.specs.declared.FormFound.the-variants.{Is, Nothing}
 use Rattle.alphabet.specs.Forms.{formOf}
 use Rattle.tlx.specs.Layout.{header, big16, caseWith}

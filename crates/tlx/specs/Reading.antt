@@ -13,7 +13,7 @@ use Rattle.alphabet.specs.Forms.{formOf}
 use Rattle.element.specs.declared.Element.{Element}
 use Rattle.element.specs.Words.{wordsOf}
 use Rattle.text.specs.Outcomes.{readIn}
-use Rattle.text.specs.Answers.{inForm, measured, roomFor, measureAnswer}
+use Rattle.text.specs.Answers.{inForm, measured, measureAnswer}
 use Rattle.tlx.specs.declared.CaseAnswer.{CaseAnswer}
 use Rattle.tlx.specs.declared.Header.{Header}
 use Rattle.tlx.specs.declared.Header.the-variants.{Refused, Pages}

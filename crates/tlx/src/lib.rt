@@ -8,8 +8,11 @@ ghost use Prim.Native.Nat.{_+_, _*_, _≤_, _<_};
 ghost use lib.ListN.{length, drop};
 ghost use Rattle.run.specs.Answers.{bare, given};
 ghost use Rattle.run.specs.Put.{Put};
+ghost use Rattle.element.specs.Words.{wordsOf};
+ghost use Rattle.text.specs.Answers.{roomFor};
 ghost use Rattle.tlx.specs.Layout.{number16, mark, big16, total, version-1, lengthsIn, header};
 ghost use Rattle.tlx.specs.Check.{begins, headerOf};
+ghost use Rattle.tlx.specs.Reading.{beside, outcomeOf, readCase, caseMeasured, readCaseAnswer, readCaseWords, pageAnswer};
 ghost use Rattle.tlx.specs.Writing.{noneOver, fitting, writeCaseAnswer, writeCaseOctets};
 
 // The four numbers of an answer, and the page beside them (0 in any answer that is not a page's refusal).
@@ -116,6 +119,117 @@ fn bare_refusal(number: usize) -> Answer
         element: 0,
         place: 0,
         count: 0,
+    }
+}
+
+// An answer, and the page beside it.
+fn with_page(a: Answer, page: usize) -> CaseAnswer
+    ensures { λ r. ⌜ r ≡ beside page a ⌝ }
+{
+    CaseAnswer {
+        number: a.number,
+        element: a.element,
+        place: a.place,
+        count: a.count,
+        page,
+    }
+}
+
+// One page's answer, as with room enough; where header or table is refused, that refusal.
+pub fn page_elements(case: &[u8], page: usize) -> Page
+    ensures { λ r. ⌜ r ≡ pageAnswer (now (case .entry)) page ⌝ }
+{
+    let header = header_of(case);
+    match header {
+        Header::Refused(number) => Page::Is(bare_refusal(number)),
+        Header::Pages { form, pages } => {
+            if pages <= page {
+                return Page::NoPage;
+            }
+            let start = 8 + 2 * pages + total_of(case, page);
+            let end = start + number_at(case, 8 + 2 * page);
+            Page::Is(text::measure(form, &case[start..end]))
+        }
+    }
+}
+
+// The first pass of reading the pages: the answer as with room enough.
+fn measure_pages(form: u32, case: &[u8], pages: usize) -> CaseAnswer
+    requires { ⌜ headerOf (now case) ≡ Header.Pages form pages ⌝ }
+    ensures { λ r. ⌜ r ≡ caseMeasured (length (now (case .entry))) (readCase (now (case .entry))) ⌝ }
+{
+    let mut start = 8 + 2 * pages;
+    let mut page = 0;
+    let mut n = 0;
+    let mut count = 0;
+    while page < pages {
+        let end = start + number_at(case, 8 + 2 * page);
+        let m = text::measure(form, &case[start..end]);
+        if m.number != 0 {
+            return with_page(m, page);
+        }
+        n += m.element;
+        count += m.count;
+        start = end;
+        page += 1;
+    }
+    CaseAnswer {
+        number: 0,
+        element: n,
+        place: start,
+        count,
+        page: 0,
+    }
+}
+
+// The second pass, where every page is accepted and there is room.
+fn fill_pages(form: u32, case: &[u8], pages: usize, words: &mut [u32])
+    requires { ⌜ headerOf (now case) ≡ Header.Pages form pages ⌝ }
+    requires { ⌜ roomFor wordsOf (length (now words)) (outcomeOf (readCase (now case))) ⌝ }
+    ensures { λ _. ⌜ now (words .exit) ≡ readCaseWords (now (case .entry)) (now (words .entry)) ⌝ }
+{
+    let mut start = 8 + 2 * pages;
+    let mut page = 0;
+    let mut o = 0;
+    while page < pages {
+        let end = start + number_at(case, 8 + 2 * page);
+        let a = text::read(form, &case[start..end], &mut words[o..]);
+        o += a.count;
+        start = end;
+        page += 1;
+    }
+}
+
+// Reads the pages of a case whose header and table are right: measured first, and then filled in.
+fn read_pages(form: u32, case: &[u8], pages: usize, words: &mut [u32]) -> CaseAnswer
+    requires { ⌜ headerOf (now case) ≡ Header.Pages form pages ⌝ }
+    ensures { λ r. ⌜ (r ≡ readCaseAnswer (now (case .entry)) (length (now (words .entry)))) × (now (words .exit) ≡ readCaseWords (now (case .entry)) (now (words .entry))) ⌝ }
+{
+    let m = measure_pages(form, case, pages);
+    if m.number != 0 {
+        return m;
+    }
+    if words.len() < m.count {
+        return CaseAnswer {
+            number: 9,
+            element: 0,
+            place: 0,
+            count: m.count,
+            page: 0,
+        };
+    }
+    fill_pages(form, case, pages, words);
+    m
+}
+
+// Reads a case. 01's order of refusals: 13, 14, 11, 15, the pages from the first, 9.
+pub fn read_case(case: &[u8], words: &mut [u32]) -> CaseAnswer
+    ensures { λ r. ⌜ (r ≡ readCaseAnswer (now (case .entry)) (length (now (words .entry)))) × (now (words .exit) ≡ readCaseWords (now (case .entry)) (now (words .entry))) ⌝ }
+{
+    let header = header_of(case);
+    match header {
+        Header::Refused(number) => with_page(bare_refusal(number), 0),
+        Header::Pages { form, pages } => read_pages(form, case, pages, words),
     }
 }
 

@@ -8,7 +8,7 @@ use Rattle.element.specs.Grammar.{Spells}
 use Rattle.element.specs.Reading.{headIn}
 use Rattle.element.proofs.Reader.{reads}
 use Rattle.text.proofs.Passed.{Filled, fill-start, fill-length, fill-onward, fill-room, fill-turn, fill-done}
-use Rattle.text.proofs.Heads.{words-short}
+use Rattle.element.proofs.Sizes.{words-short}
 use Rattle.text.proofs.Loops.{here, read-never, fits}
 use Rattle.text.proofs.fill_read.Statement.{statement}
 use Rattle.text.proofs.fill_read.Tie as tie

@@ -8,7 +8,7 @@ use Rattle.element.specs.Grammar.{Spells}
 use Rattle.element.specs.Reading.{headIn}
 use Rattle.element.proofs.Reader.{reads}
 use Rattle.text.proofs.Passed.{Measured, measure-start, small, measure-onward, measure-turn, measured-all}
-use Rattle.text.proofs.Heads.{words-short}
+use Rattle.element.proofs.Sizes.{words-short}
 use Rattle.text.proofs.Loops.{here, read-stop}
 use Rattle.text.proofs.measure_read.Statement.{statement}
 use Rattle.text.proofs.measure_read.Tie as tie

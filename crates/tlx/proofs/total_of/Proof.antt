@@ -1,5 +1,4 @@
 use Prim.Native.Nat.{_-_}
-use native.Mathlib.Omega.{arith}
 use borrow.Author.Needs.{needs}
 use Rattle.tlx.proofs.Tables.{Summed, summed-none, summed-turn, summed-all}
 use Rattle.tlx.proofs.total_of.Statement.{statement}
