@@ -1,4 +1,5 @@
 pub mod Layout
 pub mod Check
+pub mod Grammar
 pub mod Reading
 pub mod Writing

@@ -19,7 +19,7 @@ use Rattle.tlx.specs.declared.Header.{Header}
 use Rattle.tlx.specs.declared.Header.the-variants.{Refused, Pages}
 use Rattle.tlx.specs.declared.Page.{Page}
 use Rattle.tlx.specs.declared.Page.the-variants.{Is, NoPage}
-use Rattle.tlx.specs.Check.{headerOf, pagesOf}
+use Rattle.tlx.specs.Check.{headerAnswer, headerOf, pagesOf}
 
 -- what a case, or some pages of it, come to
 pub data CaseOutcome : Type 0 where
@@ -87,7 +87,7 @@ readCaseWords case words = writtenOf wordsOf words (outcomeOf (readCase case))
 
 -- ---- one page
 
--- 01's number and values of each answer; where there is no such page it has none
+-- 01's number and values of each answer; 01 has none for a page that is not in the case
 abbrev pub pageValues : Page → Answer
 pageValues (Is a) = a
 pageValues NoPage = bare 0
@@ -95,7 +95,7 @@ pageValues NoPage = bare 0
 -- the case's own refusal; else the answer of the page's octets, read as a text with room enough
 unfoldable pub pageAnswer : List ℕ → ℕ → Page
 pageAnswer case page =
-    byHeader (headerOf case) (λ r. Is (bare r))
+    byHeader (headerOf case) (λ r. Is (headerAnswer (Refused r)))
     (λ form n. pick (ltb page n) (Is (measureAnswer form (getD (pagesOf case) page []))) NoPage)
 
 -- ---- parts of the code

@@ -46,7 +46,9 @@ fn number_at(octets: &[u8], at: usize) -> usize
     requires { ⌜ at + 2 ≤ length (now octets) ⌝ }
     ensures { λ r. ⌜ (r ≡ number16 (now (octets .entry)) at) × (r < 0x10000) ⌝ }
 {
-    256 * (octets[at] as usize) + octets[at + 1] as usize
+    let high = octets[at] as usize;
+    let low = octets[at + 1] as usize;
+    256 * high + low
 }
 
 // 01: "Octets 54 4C 58".
@@ -205,21 +207,21 @@ fn read_pages(form: u32, case: &[u8], pages: usize, words: &mut [u32]) -> CaseAn
     requires { ⌜ headerOf (now case) ≡ Header.Pages form pages ⌝ }
     ensures { λ r. ⌜ (r ≡ readCaseAnswer (now (case .entry)) (length (now (words .entry)))) × (now (words .exit) ≡ readCaseWords (now (case .entry)) (now (words .entry))) ⌝ }
 {
-    let m = measure_pages(form, case, pages);
-    if m.number != 0 {
-        return m;
+    let a = measure_pages(form, case, pages);
+    if a.number != 0 {
+        return a;
     }
-    if words.len() < m.count {
+    if words.len() < a.count {
         return CaseAnswer {
             number: 9,
             element: 0,
             place: 0,
-            count: m.count,
+            count: a.count,
             page: 0,
         };
     }
     fill_pages(form, case, pages, words);
-    m
+    a
 }
 
 // Reads a case. 01's order of refusals: 13, 14, 11, 15, the pages from the first, 9.
