@@ -9,6 +9,8 @@ form, the octets or words, the room that is lent, the four numbers of the answer
 entries that it puts. A conversion has two forms, with a space between. Where one element is read, a place stands for the room, and
 the answer is `00E9 > 02`, its words and the place after it; `!03 00 01`, a refusal's number in decimal, place and count; or `.`,
 none is left. Everything else is in hex.
+
+The program runs texts that the GNU C library decoded too, which make_peer_texts.py writes: run that first.
 """
 from __future__ import annotations
 
@@ -18,6 +20,7 @@ import sys
 from typing import Callable, Iterable, Iterator, NamedTuple, Optional, Tuple
 
 sys.dont_write_bytecode = True
+import make_peer_texts
 import model
 
 ROOT = pathlib.Path(__file__).resolve().parent.parent
@@ -604,6 +607,7 @@ def texts() -> dict[pathlib.Path, str]:
         assert max(len(each.split(",", 3)[3]) for each in lines) <= MOST_ANSWER
         found[CRATE / "data" / name] = text
         report.append(f"{name}: {len(lines)} vectors, 0 wrong\n")
+    report += [make_peer_texts.report_line(decoder) + "\n" for decoder in make_peer_texts.DECODERS]
     found[CRATE / "stdout"] = "".join(report)
     return found
 

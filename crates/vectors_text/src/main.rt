@@ -6,14 +6,20 @@
 // element is read, its place stands for the room, and its answer is `00E9 > 02`, its words and the place after it; `!03 00 01`,
 // a refusal's number in decimal, place and count; or `.`, none is left. Everything else is in hex.
 // In an answer of ours `?` stands where an entry that should be left alone is not, within the room or past it.
+//
+// Two files have texts that the GNU C library decoded, with what it gave (`peers`): their answers are compared with ours up to the
+// differences that docs/PEERS.md lists.
 mod calls;
 mod fields;
 mod line;
+mod peers;
 mod room;
+mod say;
 
 ghost use Prim.Native.Nat.{_≤_};
 ghost use mathlib.Core.Path.{_≡_};
 ghost use lib.ListN.{length};
+ghost use Rattle.io.specs.Counts.{Counts};
 use calls::answer_converting;
 use calls::answer_element;
 use calls::answer_reading;
@@ -21,6 +27,8 @@ use calls::answer_writing;
 use fields::find;
 use fields::number_in;
 use line::put;
+use say::say;
+use say::say_number;
 
 // What the lines of a file ask.
 enum Asked {
@@ -28,14 +36,6 @@ enum Asked {
     Writing,
     Converting,
     OneElement,
-}
-
-fn say(text: &[u8]) {
-    io::write_all(1, text);
-}
-
-fn say_number(n: usize) {
-    io::print_decimal(1, n as u64);
 }
 
 // The two forms of a conversion stand as `1 3`.
@@ -174,6 +174,20 @@ fn run_lines(name: &[u8], asked: Asked, text: &[u8]) {
     print_totals(vectors, wrong);
 }
 
+// Puts what the file has, and answers how much that is: nothing where it cannot be read.
+fn load(name: &[u8], out: &mut [u8]) -> usize
+    ensures { λ r. ⌜ Counts r (now (out .exit)) ⌝ }
+{
+    let fd = os::open_read(name);
+    if fd < 0 {
+        os::fail(name);
+        return 0;
+    }
+    let n = io::read_full(fd, out);
+    libc::close(fd);
+    n
+}
+
 fn buffer() -> [u8; 400000]
     ensures { λ r. ⌜ 400000 ≡ length r ⌝ }
 {
@@ -181,15 +195,15 @@ fn buffer() -> [u8; 400000]
 }
 
 fn run_file(name: &[u8], asked: Asked) {
-    let fd = os::open_read(name);
-    if fd < 0 {
-        os::fail(name);
-        return;
-    }
     let mut text = buffer();
-    let n = io::read_full(fd, &mut text);
+    let n = load(name, &mut text);
     run_lines(name, asked, &text[..n]);
-    libc::close(fd);
+}
+
+fn run_peer(name: &[u8], form: u32) {
+    let mut text = buffer();
+    let n = load(name, &mut text);
+    peers::compare_lines(name, form, &text[..n]);
 }
 
 fn main() {
@@ -203,4 +217,6 @@ fn main() {
     run_file(b"convert_2.csv", Asked::Converting);
     run_file(b"convert_3.csv", Asked::Converting);
     run_file(b"element.csv", Asked::OneElement);
+    run_peer(b"glibc_1.csv", 1);
+    run_peer(b"glibc_3.csv", 3);
 }

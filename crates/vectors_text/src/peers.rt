@@ -1,0 +1,222 @@
+// Whole texts that the GNU C library decoded, beside what `text` reads. They may differ as docs/PEERS.md lists it, and not otherwise.
+//
+// A file has a heading and a line a text, in hex: its octets, the code points that the C library gave, and how many octets it took,
+// which are fewer than there are where it refused the code that comes next.
+ghost use Prim.Native.Nat.{_≤_};
+use crate::fields::find;
+use crate::fields::number_in;
+use crate::fields::octets_in;
+use crate::fields::words_in;
+use crate::say::say;
+use crate::say::say_number;
+
+enum Verdict {
+    // word for word
+    Same,
+    // but for characters that are listed
+    Listed,
+    // up to a code that is listed as refused by the C library
+    Stopped,
+    Otherwise,
+}
+
+fn rank(verdict: Verdict) -> usize {
+    match verdict {
+        Verdict::Same => 0,
+        Verdict::Listed => 1,
+        Verdict::Stopped => 2,
+        Verdict::Otherwise => 3,
+    }
+}
+
+// 1 where the verdict is the wanted one.
+fn one_if(verdict: Verdict, wanted: Verdict) -> usize
+    ensures { λ r. ⌜ r ≤ 1 ⌝ }
+{
+    if rank(verdict) == rank(wanted) { 1 } else { 0 }
+}
+
+// The word of what the C library gave: its code point, or a control's word.
+fn word_of(theirs: u32) -> u32 {
+    match theirs {
+        0x00..=0x1F => 0x2000000 + theirs,
+        0x7F..=0x9F => 0x2000000 + theirs,
+        _ => theirs,
+    }
+}
+
+// A character that the C library reads otherwise: E2 as Eth, and D0 as the em dash.
+fn is_listed(form: u32, ours: u32, theirs: u32) -> bool {
+    match ours {
+        0x0110 => theirs == 0x00D0,
+        0x2015 => form == 1 && theirs == 0x2014,
+        _ => false,
+    }
+}
+
+// A code that it refuses: form 3's 23 and 24, and the grave, the circumflex and the tilde before SPACE.
+fn is_refused(form: u32, first: u8, second: u8) -> bool {
+    match first {
+        0x23..=0x24 => form == 3,
+        0xC1 => second == b' ',
+        0xC3..=0xC4 => second == b' ',
+        _ => false,
+    }
+}
+
+fn compare_words(form: u32, ours: &[u32], theirs: &[u32]) -> Verdict {
+    if ours.len() != theirs.len() {
+        return Verdict::Otherwise;
+    }
+    let mut verdict = Verdict::Same;
+    let mut i = 0;
+    while i < ours.len() {
+        if ours[i] != word_of(theirs[i]) {
+            if !is_listed(form, ours[i], theirs[i]) {
+                return Verdict::Otherwise;
+            }
+            verdict = Verdict::Listed;
+        }
+        i += 1;
+    }
+    verdict
+}
+
+// Compares the first `n` words of ours.
+fn compare_first(form: u32, ours: &[u32], n: usize, theirs: &[u32]) -> Verdict {
+    if ours.len() < n {
+        return Verdict::Otherwise;
+    }
+    compare_words(form, &ours[0..n], theirs)
+}
+
+fn compare_reading(form: u32, octets: &[u8], theirs: &[u32]) -> Verdict {
+    let mut words = [0; 256];
+    let answer = text::read(form, octets, &mut words);
+    if answer.number != 0 {
+        return Verdict::Otherwise;
+    }
+    compare_first(form, &words, answer.count, theirs)
+}
+
+fn is_accepted(form: u32, octets: &[u8]) -> bool {
+    let mut words = [0; 256];
+    let answer = text::read(form, octets, &mut words);
+    answer.number == 0
+}
+
+// The octet at a place, 0 past the end.
+fn octet_at(octets: &[u8], at: usize) -> u8 {
+    if at < octets.len() { octets[at] } else { 0 }
+}
+
+// The C library refused what the rest begins with: that has to be listed, and we have to accept all of the octets.
+fn compare_stopped(form: u32, octets: &[u8], rest: &[u8], before: Verdict) -> Verdict {
+    if let Verdict::Otherwise = before {
+        return before;
+    }
+    if !is_refused(form, octet_at(rest, 0), octet_at(rest, 1)) {
+        return Verdict::Otherwise;
+    }
+    if !is_accepted(form, octets) {
+        return Verdict::Otherwise;
+    }
+    Verdict::Stopped
+}
+
+fn compare_taken(form: u32, octets: &[u8], taken: usize, theirs: &[u32]) -> Verdict {
+    if octets.len() < taken {
+        return Verdict::Otherwise;
+    }
+    let verdict = compare_reading(form, &octets[0..taken], theirs);
+    if taken == octets.len() {
+        return verdict;
+    }
+    compare_stopped(form, octets, &octets[taken..], verdict)
+}
+
+fn compare_given(form: u32, octets: &[u8], taken: usize, given: &[u8]) -> Verdict {
+    let mut theirs = [0; 256];
+    let n = words_in(given, &mut theirs);
+    if theirs.len() < n {
+        return Verdict::Otherwise;
+    }
+    compare_taken(form, octets, taken, &theirs[0..n])
+}
+
+fn compare_fields(form: u32, entries: &[u8], given: &[u8], taken: &[u8]) -> Verdict {
+    let mut octets = [0; 256];
+    let n = octets_in(entries, &mut octets);
+    if octets.len() < n {
+        return Verdict::Otherwise;
+    }
+    compare_given(form, &octets[0..n], number_in(taken) as usize, given)
+}
+
+fn compare_line(form: u32, line: &[u8]) -> Verdict {
+    let first = find(line, 0, b',');
+    if first == line.len() {
+        return Verdict::Otherwise;
+    }
+    let start = first + 1;
+    let second = find(line, start, b',');
+    if second == line.len() {
+        return Verdict::Otherwise;
+    }
+    let rest = second + 1;
+    compare_fields(form, &line[0..first], &line[start..second], &line[rest..])
+}
+
+// The verdict on the line, which is shown where it is bad.
+fn judge_line(name: &[u8], form: u32, line: &[u8]) -> Verdict {
+    let verdict = compare_line(form, line);
+    if let Verdict::Otherwise = verdict {
+        say(name);
+        say(b": otherwise: ");
+        say(line);
+        say(b"\n");
+    }
+    verdict
+}
+
+fn print_totals(
+    name: &[u8],
+    texts: usize,
+    same: usize,
+    listed: usize,
+    stopped: usize,
+    otherwise: usize,
+) {
+    say(name);
+    say(b": ");
+    say_number(texts);
+    say(b" texts, ");
+    say_number(same);
+    say(b" the same, ");
+    say_number(listed);
+    say(b" but for listed characters, ");
+    say_number(stopped);
+    say(b" up to a code listed as refused, ");
+    say_number(otherwise);
+    say(b" otherwise\n");
+}
+
+pub(crate) fn compare_lines(name: &[u8], form: u32, text: &[u8]) {
+    let mut texts: usize = 0;
+    let mut same: usize = 0;
+    let mut listed: usize = 0;
+    let mut stopped: usize = 0;
+    let mut otherwise: usize = 0;
+    let mut at = find(text, 0, b'\n') + 1;
+    while at < text.len() {
+        let end = find(text, at, b'\n');
+        let verdict = judge_line(name, form, &text[at..end]);
+        texts += 1;
+        same += one_if(verdict, Verdict::Same);
+        listed += one_if(verdict, Verdict::Listed);
+        stopped += one_if(verdict, Verdict::Stopped);
+        otherwise += one_if(verdict, Verdict::Otherwise);
+        at = end + 1;
+    }
+    print_totals(name, texts, same, listed, stopped, otherwise);
+}
