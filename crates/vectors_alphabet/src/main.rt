@@ -7,7 +7,7 @@ use alphabet::Form;
 use alphabet::FormFound;
 use alphabet::Sort;
 use alphabet::Spelling;
-use say::say;
+use lines::say::say;
 use say::say_code_point;
 use say::say_form;
 use say::say_found;

@@ -1,14 +1,19 @@
 // Other decoders' answers beside ours: where they differ, and how often.
 //
 // A file has a heading and a line an input: its octets, a comma, and what the decoder gave.
-ghost use Prim.Native.Nat.{_≤_, _<_};
-ghost use lib.ListN.{length};
-use crate::say::digit;
-use crate::say::say;
 use crate::say::say_code_point;
 use alphabet::Form;
 use alphabet::Found;
 use alphabet::Sort;
+use lines::fields::field;
+use lines::fields::number_in;
+use lines::fields::part;
+use lines::fields::rest;
+use lines::fields::words_in;
+use lines::files::buffer;
+use lines::files::load;
+use lines::say::say;
+use lines::say::say_number;
 
 // What we read where the octets stand alone. A control is its own number; a mark alone is refused,
 // since the input ends inside it, and so is the start of a sequence.
@@ -16,43 +21,6 @@ enum Reading {
     Char(u32),
     Underlined(u32),
     Refused,
-}
-
-// The place of the first `wanted` from `at` on, or the end of the text.
-fn find(text: &[u8], at: usize, wanted: u8) -> usize
-    requires { ⌜ at ≤ length (now text) ⌝ }
-    ensures from { λ r. ⌜ at ≤ r ⌝ }
-    ensures within { λ r. ⌜ r ≤ length (now (text .entry)) ⌝ }
-{
-    let mut i = at;
-    while i < text.len() {
-        if text[i] == wanted {
-            return i;
-        }
-        i += 1;
-    }
-    i
-}
-
-fn value_of(digit: u8) -> u8
-    ensures { λ r. ⌜ r < 16 ⌝ }
-{
-    match digit {
-        b'0'..=b'9' => digit - b'0',
-        b'A'..=b'F' => digit - b'A' + 10,
-        _ => 0,
-    }
-}
-
-// The octet that two digits give, from `at` on; 0 where there are none.
-fn octet_at(text: &[u8], at: usize) -> u8 {
-    if text.len() < 2 {
-        return 0;
-    }
-    if text.len() - 2 < at {
-        return 0;
-    }
-    16 * value_of(text[at]) + value_of(text[at + 1])
 }
 
 fn read_one(form: Form, octet: u8) -> Reading {
@@ -92,10 +60,13 @@ fn read_two(form: Form, first: u8, second: u8) -> Reading {
 
 // The octets are `C2` or `C2 65`.
 fn read_octets(form: Form, octets: &[u8]) -> Reading {
-    if octets.len() == 2 {
-        return read_one(form, octet_at(octets, 0));
+    let mut numbers = [0; 2];
+    let n = words_in(octets, &mut numbers);
+    let first = (numbers[0] % 256) as u8;
+    if n == 1 {
+        return read_one(form, first);
     }
-    read_two(form, octet_at(octets, 0), octet_at(octets, 3))
+    read_two(form, first, (numbers[1] % 256) as u8)
 }
 
 fn say_reading(reading: Reading) {
@@ -111,16 +82,7 @@ fn say_reading(reading: Reading) {
 
 // Whether the decoder gave that one character, in four digits.
 fn is_character(theirs: &[u8], c: u32) -> bool {
-    if theirs.len() != 4 {
-        return false;
-    }
-    if 0x10000 <= c {
-        return false;
-    }
-    theirs[0] == digit(c / 0x1000)
-        && theirs[1] == digit(c / 0x100)
-        && theirs[2] == digit(c / 0x10)
-        && theirs[3] == digit(c)
+    theirs.len() == 4 && number_in(theirs) == c
 }
 
 // `refused`, or `refused:` and what stands in its place: no digit is an `r`.
@@ -163,49 +125,37 @@ fn compare(name: &[u8], form: Form, octets: &[u8], theirs: &[u8]) -> bool {
 
 // Some of the files end a line with CR and LF.
 fn compare_line(name: &[u8], form: Form, line: &[u8]) -> bool {
-    let comma = find(line, 0, b',');
-    if comma == line.len() {
-        return false;
-    }
-    let start = comma + 1;
-    let end = find(line, start, b'\r');
-    compare(name, form, &line[0..comma], &line[start..end])
+    compare(name, form, field(line, 0), part(rest(line, 1), 0, b'\r'))
 }
 
 fn print_totals(name: &[u8], agree: usize, differ: usize) {
     say(b"peer ");
     say(name);
     say(b" agree ");
-    io::print_decimal(1, agree as u64);
+    say_number(agree);
     say(b" differ ");
-    io::print_decimal(1, differ as u64);
+    say_number(differ);
     say(b"\n");
 }
 
 fn compare_lines(name: &[u8], form: Form, text: &[u8]) {
     let mut agree: usize = 0;
     let mut differ: usize = 0;
-    let mut at = find(text, 0, b'\n') + 1;
+    let mut at = part(text, 0, b'\n').len() + 1;
     while at < text.len() {
-        let end = find(text, at, b'\n');
-        if compare_line(name, form, &text[at..end]) {
+        let line = part(text, at, b'\n');
+        if compare_line(name, form, line) {
             agree += 1;
         } else {
             differ += 1;
         }
-        at = end + 1;
+        at += line.len() + 1;
     }
     print_totals(name, agree, differ);
 }
 
 pub(crate) fn print_peer(name: &[u8], form: Form) {
-    let fd = os::open_read(name);
-    if fd < 0 {
-        os::fail(name);
-        return;
-    }
-    let mut buffer = io::large_buffer();
-    let n = io::read_full(fd, &mut buffer);
-    compare_lines(name, form, &buffer[..n]);
-    libc::close(fd);
+    let mut text = buffer();
+    let n = load(name, &mut text);
+    compare_lines(name, form, &text[..n]);
 }

@@ -1,22 +1,10 @@
-// What is printed, piece by piece, to standard output. Each piece but the first of a line starts with a space.
+// The pieces that are printed. Each starts with a space.
 use alphabet::Form;
 use alphabet::Found;
 use alphabet::Sort;
 use alphabet::Spelling;
-
-pub(crate) fn say(text: &[u8]) {
-    io::write_all(1, text);
-}
-
-// The last hexadecimal digit of the number.
-pub(crate) fn digit(number: u32) -> u8 {
-    let value = (number % 16) as u8;
-    if value < 10 {
-        b'0' + value
-    } else {
-        b'A' - 10 + value
-    }
-}
+use lines::answer::digit;
+use lines::say::say;
 
 pub(crate) fn say_octet(octet: u8) {
     let n = octet as u32;

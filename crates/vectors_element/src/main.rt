@@ -6,25 +6,26 @@
 // none is left. Where words are asked, the element's spelling in each form follows, `-` where the form does not hold it.
 // In an answer of ours `?` stands after what is not put as it should be: in number, with room for just it, with too little room,
 // or with the entries around it left alone.
-mod fields;
 mod spelling;
-mod text;
 mod words;
 
-ghost use Prim.Native.Nat.{_≤_};
-ghost use mathlib.Core.Path.{_≡_};
-ghost use lib.ListN.{length};
 use alphabet::Form;
 use element::Element;
 use element::Step;
-use fields::find;
-use fields::number_in;
-use fields::octets_in;
-use fields::words_in;
+use lines::answer::put;
+use lines::answer::put_after_space;
+use lines::answer::put_refusal;
+use lines::fields::field;
+use lines::fields::number_in;
+use lines::fields::octets_in;
+use lines::fields::part;
+use lines::fields::rest;
+use lines::fields::words_in;
+use lines::files::buffer;
+use lines::files::load;
+use lines::say::is_expected;
+use lines::say::say_totals;
 use spelling::put_spelling;
-use text::put;
-use text::put_number;
-use text::put_place;
 use words::put_element;
 
 // What the lines of a file ask.
@@ -33,28 +34,10 @@ enum Asked {
     Words,
 }
 
-fn say(text: &[u8]) {
-    io::write_all(1, text);
-}
-
-fn say_number(n: usize) {
-    io::print_decimal(1, n as u64);
-}
-
 fn put_read(out: &mut [u8], e: Element, next: usize) -> usize {
     let first = put_element(out, 0, e);
     let second = put(out, first, b'>');
-    let third = put(out, second, b' ');
-    put_place(out, third, next)
-}
-
-fn put_refusal(out: &mut [u8], number: usize, place: usize, count: usize) -> usize {
-    let first = put(out, 0, b'!');
-    let second = put_number(out, first, number);
-    let third = put(out, second, b' ');
-    let fourth = put_place(out, third, place);
-    let fifth = put(out, fourth, b' ');
-    put_place(out, fifth, count)
+    put_after_space(out, second, next)
 }
 
 fn put_step(out: &mut [u8], step: Step) -> usize {
@@ -123,119 +106,34 @@ fn answer(out: &mut [u8], asked: Asked, text: &[u8], place: usize) -> usize {
     }
 }
 
-// Whether the first `n` octets of ours are just those expected.
-fn is_same(ours: &[u8], n: usize, expected: &[u8]) -> bool {
-    if n != expected.len() {
-        return false;
-    }
-    if ours.len() < n {
-        return false;
-    }
-    let mut i = 0;
-    while i < n {
-        if ours[i] != expected[i] {
-            return false;
-        }
-        i += 1;
-    }
-    true
-}
-
-fn say_first(text: &[u8], n: usize) {
-    if n <= text.len() {
-        say(&text[0..n]);
-    }
-}
-
 // Whether our answer is the one expected; printed where it is not, if it is to be shown.
-fn compare(asked: Asked, entries: &[u8], place: &[u8], expected: &[u8], shown: bool) -> bool {
-    let mut ours = [0; 256];
-    let n = answer(&mut ours, asked, entries, number_in(place) as usize);
-    if is_same(&ours, n, expected) {
-        return true;
-    }
-    if shown {
-        say(b", ours ");
-        say_first(&ours, n);
-    }
-    false
-}
-
 fn is_right(asked: Asked, line: &[u8], shown: bool) -> bool {
-    let first = find(line, 0, b',');
-    if first == line.len() {
-        return false;
-    }
-    let start = first + 1;
-    let second = find(line, start, b',');
-    if second == line.len() {
-        return false;
-    }
-    let rest = second + 1;
-    compare(
-        asked,
-        &line[0..first],
-        &line[start..second],
-        &line[rest..],
-        shown,
-    )
+    let place = number_in(field(line, 1)) as usize;
+    let mut ours = [0; 256];
+    let n = answer(&mut ours, asked, field(line, 0), place);
+    is_expected(&ours, n, rest(line, 2), line, shown)
 }
 
-fn print_totals(vectors: usize, wrong: usize) {
-    say_number(vectors);
-    say(b" vectors, ");
-    say_number(wrong);
-    say(b" wrong\n");
-}
-
-// How many wrong answers the line has, 0 or 1. The first ten of a file are shown.
-fn run_line(name: &[u8], asked: Asked, line: &[u8], wrong: usize) -> usize
-    ensures { λ r. ⌜ r ≤ 1 ⌝ }
-{
-    if is_right(asked, line, false) {
-        return 0;
-    }
-    if wrong < 10 {
-        say(name);
-        say(b": ");
-        say(line);
-        is_right(asked, line, true);
-        say(b"\n");
-    }
-    1
-}
-
+// The first ten wrong answers are shown.
 fn run_lines(name: &[u8], asked: Asked, text: &[u8]) {
     let mut vectors: usize = 0;
     let mut wrong: usize = 0;
-    let mut at = find(text, 0, b'\n') + 1;
+    let mut at = part(text, 0, b'\n').len() + 1;
     while at < text.len() {
-        let end = find(text, at, b'\n');
-        wrong += run_line(name, asked, &text[at..end], wrong);
+        let line = part(text, at, b'\n');
+        if !is_right(asked, line, wrong < 10) {
+            wrong += 1;
+        }
         vectors += 1;
-        at = end + 1;
+        at += line.len() + 1;
     }
-    say(name);
-    say(b": ");
-    print_totals(vectors, wrong);
-}
-
-fn buffer() -> [u8; 400000]
-    ensures { λ r. ⌜ 400000 ≡ length r ⌝ }
-{
-    [0; 400000]
+    say_totals(name, vectors, wrong);
 }
 
 fn run_file(name: &[u8], asked: Asked) {
-    let fd = os::open_read(name);
-    if fd < 0 {
-        os::fail(name);
-        return;
-    }
     let mut text = buffer();
-    let n = io::read_full(fd, &mut text);
+    let n = load(name, &mut text);
     run_lines(name, asked, &text[..n]);
-    libc::close(fd);
 }
 
 fn main() {

@@ -1,9 +1,9 @@
 // An element's spelling as text.
 ghost use Prim.Native.Nat.{_≤_};
-use crate::text::put;
-use crate::text::put_octet;
 use alphabet::Form;
 use element::Element;
+use lines::answer::put;
+use lines::answer::put_octet;
 
 // An octet that no spelling has: it is in no form.
 const FREE: u8 = 0x80;

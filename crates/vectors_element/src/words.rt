@@ -1,7 +1,7 @@
 // An element's parts as text, and whether the words that `put_words` puts are these parts.
-use crate::text::put;
-use crate::text::put_word;
 use element::Element;
+use lines::answer::put;
+use lines::answer::put_word;
 
 // No word of an element.
 const FREE: u32 = 0xFFFFFFFF;

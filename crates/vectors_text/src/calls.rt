@@ -1,17 +1,16 @@
 // The functions of `text`, called with a part of a larger room, and what they answer as text.
-use crate::fields::octets_in;
-use crate::fields::words_in;
-use crate::line::put;
-use crate::line::put_after_space;
-use crate::line::put_answer;
-use crate::line::put_number;
-use crate::line::put_place;
-use crate::room::fill_octets;
-use crate::room::fill_words;
-use crate::room::put_octets;
-use crate::room::put_words;
 use element::Element;
 use element::Step;
+use lines::answer::put;
+use lines::answer::put_after_space;
+use lines::answer::put_answer;
+use lines::answer::put_refusal;
+use lines::fields::octets_in;
+use lines::fields::words_in;
+use lines::room::fill_octets;
+use lines::room::fill_words;
+use lines::room::put_octets;
+use lines::room::put_words;
 use run::Answer;
 
 // The answer to a vector that the program has no room for.
@@ -110,19 +109,20 @@ pub(crate) fn answer_writing(out: &mut [u8], form: u32, entries: &[u8], room: us
     put_octets(out, next, &octets, written(answer))
 }
 
-// The conversion's answer, and the octets that it puts.
+// The conversion's answer, and the octets that it puts. The two forms stand as `1 3`.
 pub(crate) fn answer_converting(
     out: &mut [u8],
-    source: u32,
-    target: u32,
+    forms: &[u8],
     entries: &[u8],
     room: usize,
 ) -> usize {
+    let mut pair = [0; 2];
+    words_in(forms, &mut pair);
     let mut octets = [0; 512];
     let n = octets_in(entries, &mut octets);
     let mut converted = [0; 1024];
     fill_octets(&mut converted);
-    let answer = convert_first(source, target, &octets, n, &mut converted, room);
+    let answer = convert_first(pair[0], pair[1], &octets, n, &mut converted, room);
     let next = put_answer(out, answer);
     put_octets(out, next, &converted, written(answer))
 }
@@ -136,13 +136,6 @@ fn put_read(out: &mut [u8], e: Element, next: usize) -> usize {
     let second = put(out, first, b' ');
     let third = put(out, second, b'>');
     put_after_space(out, third, next)
-}
-
-fn put_refusal(out: &mut [u8], number: usize, place: usize, count: usize) -> usize {
-    let first = put(out, 0, b'!');
-    let second = put_number(out, first, number);
-    let third = put_after_space(out, second, place);
-    put_after_space(out, third, count)
 }
 
 fn put_step(out: &mut [u8], step: Step) -> usize {

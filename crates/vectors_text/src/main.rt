@@ -10,25 +10,20 @@
 // Two files have texts that the GNU C library decoded, with what it gave (`peers`): their answers are compared with ours up to the
 // differences that docs/PEERS.md lists.
 mod calls;
-mod fields;
-mod line;
 mod peers;
-mod room;
-mod say;
 
-ghost use Prim.Native.Nat.{_≤_};
-ghost use mathlib.Core.Path.{_≡_};
-ghost use lib.ListN.{length};
-ghost use Rattle.io.specs.Counts.{Counts};
 use calls::answer_converting;
 use calls::answer_element;
 use calls::answer_reading;
 use calls::answer_writing;
-use fields::find;
-use fields::number_in;
-use line::put;
-use say::say;
-use say::say_number;
+use lines::fields::field;
+use lines::fields::number_in;
+use lines::fields::part;
+use lines::fields::rest;
+use lines::files::buffer;
+use lines::files::load;
+use lines::say::is_expected;
+use lines::say::say_totals;
 
 // What the lines of a file ask.
 enum Asked {
@@ -38,160 +33,37 @@ enum Asked {
     OneElement,
 }
 
-// The two forms of a conversion stand as `1 3`.
-fn answer_pair(out: &mut [u8], forms: &[u8], entries: &[u8], room: usize) -> usize {
-    let end = find(forms, 0, b' ');
-    if end == forms.len() {
-        return put(out, 0, b'?');
-    }
-    let start = end + 1;
-    let source = number_in(&forms[0..end]);
-    let target = number_in(&forms[start..]);
-    answer_converting(out, source, target, entries, room)
-}
-
 fn answer(out: &mut [u8], asked: Asked, forms: &[u8], entries: &[u8], third: usize) -> usize {
     match asked {
         Asked::Reading => answer_reading(out, number_in(forms), entries, third),
         Asked::Writing => answer_writing(out, number_in(forms), entries, third),
-        Asked::Converting => answer_pair(out, forms, entries, third),
+        Asked::Converting => answer_converting(out, forms, entries, third),
         Asked::OneElement => answer_element(out, number_in(forms), entries, third),
     }
 }
 
-// Whether the first `n` octets of ours are just those expected.
-fn is_same(ours: &[u8], n: usize, expected: &[u8]) -> bool {
-    if n != expected.len() {
-        return false;
-    }
-    if ours.len() < n {
-        return false;
-    }
-    let mut i = 0;
-    while i < n {
-        if ours[i] != expected[i] {
-            return false;
-        }
-        i += 1;
-    }
-    true
-}
-
-fn say_first(text: &[u8], n: usize) {
-    if n <= text.len() {
-        say(&text[0..n]);
-    }
-}
-
 // Whether our answer is the one expected; printed where it is not, if it is to be shown.
-fn compare(
-    asked: Asked,
-    forms: &[u8],
-    entries: &[u8],
-    third: &[u8],
-    expected: &[u8],
-    shown: bool,
-) -> bool {
-    let mut ours = [0; 8192];
-    let n = answer(&mut ours, asked, forms, entries, number_in(third) as usize);
-    if is_same(&ours, n, expected) {
-        return true;
-    }
-    if shown {
-        say(b"; ours ");
-        say_first(&ours, n);
-    }
-    false
-}
-
-// The line without its forms, which are handed on.
-fn is_rest_right(asked: Asked, forms: &[u8], line: &[u8], shown: bool) -> bool {
-    let first = find(line, 0, b',');
-    if first == line.len() {
-        return false;
-    }
-    let start = first + 1;
-    let second = find(line, start, b',');
-    if second == line.len() {
-        return false;
-    }
-    let rest = second + 1;
-    compare(
-        asked,
-        forms,
-        &line[0..first],
-        &line[start..second],
-        &line[rest..],
-        shown,
-    )
-}
-
 fn is_right(asked: Asked, line: &[u8], shown: bool) -> bool {
-    let end = find(line, 0, b',');
-    if end == line.len() {
-        return false;
-    }
-    let start = end + 1;
-    is_rest_right(asked, &line[0..end], &line[start..], shown)
+    let third = number_in(field(line, 2)) as usize;
+    let mut ours = [0; 8192];
+    let n = answer(&mut ours, asked, field(line, 0), field(line, 1), third);
+    is_expected(&ours, n, rest(line, 3), line, shown)
 }
 
-fn print_totals(vectors: usize, wrong: usize) {
-    say_number(vectors);
-    say(b" vectors, ");
-    say_number(wrong);
-    say(b" wrong\n");
-}
-
-// How many wrong answers the line has, 0 or 1. The first ten of a file are shown.
-fn run_line(name: &[u8], asked: Asked, line: &[u8], wrong: usize) -> usize
-    ensures { λ r. ⌜ r ≤ 1 ⌝ }
-{
-    if is_right(asked, line, false) {
-        return 0;
-    }
-    if wrong < 10 {
-        say(name);
-        say(b": ");
-        say(line);
-        is_right(asked, line, true);
-        say(b"\n");
-    }
-    1
-}
-
+// The first ten wrong answers are shown.
 fn run_lines(name: &[u8], asked: Asked, text: &[u8]) {
     let mut vectors: usize = 0;
     let mut wrong: usize = 0;
-    let mut at = find(text, 0, b'\n') + 1;
+    let mut at = part(text, 0, b'\n').len() + 1;
     while at < text.len() {
-        let end = find(text, at, b'\n');
-        wrong += run_line(name, asked, &text[at..end], wrong);
+        let line = part(text, at, b'\n');
+        if !is_right(asked, line, wrong < 10) {
+            wrong += 1;
+        }
         vectors += 1;
-        at = end + 1;
+        at += line.len() + 1;
     }
-    say(name);
-    say(b": ");
-    print_totals(vectors, wrong);
-}
-
-// Puts what the file has, and answers how much that is: nothing where it cannot be read.
-fn load(name: &[u8], out: &mut [u8]) -> usize
-    ensures { λ r. ⌜ Counts r (now (out .exit)) ⌝ }
-{
-    let fd = os::open_read(name);
-    if fd < 0 {
-        os::fail(name);
-        return 0;
-    }
-    let n = io::read_full(fd, out);
-    libc::close(fd);
-    n
-}
-
-fn buffer() -> [u8; 400000]
-    ensures { λ r. ⌜ 400000 ≡ length r ⌝ }
-{
-    [0; 400000]
+    say_totals(name, vectors, wrong);
 }
 
 fn run_file(name: &[u8], asked: Asked) {

@@ -3,12 +3,13 @@
 // A file has a heading and a line a text, in hex: its octets, the code points that the C library gave, and how many octets it took,
 // which are fewer than there are where it refused the code that comes next.
 ghost use Prim.Native.Nat.{_≤_};
-use crate::fields::find;
-use crate::fields::number_in;
-use crate::fields::octets_in;
-use crate::fields::words_in;
-use crate::say::say;
-use crate::say::say_number;
+use lines::fields::field;
+use lines::fields::number_in;
+use lines::fields::octets_in;
+use lines::fields::part;
+use lines::fields::words_in;
+use lines::say::say;
+use lines::say::say_number;
 
 enum Verdict {
     // word for word
@@ -144,27 +145,14 @@ fn compare_given(form: u32, octets: &[u8], taken: usize, given: &[u8]) -> Verdic
     compare_taken(form, octets, taken, &theirs[0..n])
 }
 
-fn compare_fields(form: u32, entries: &[u8], given: &[u8], taken: &[u8]) -> Verdict {
+fn compare_line(form: u32, line: &[u8]) -> Verdict {
     let mut octets = [0; 256];
-    let n = octets_in(entries, &mut octets);
+    let n = octets_in(field(line, 0), &mut octets);
     if octets.len() < n {
         return Verdict::Otherwise;
     }
-    compare_given(form, &octets[0..n], number_in(taken) as usize, given)
-}
-
-fn compare_line(form: u32, line: &[u8]) -> Verdict {
-    let first = find(line, 0, b',');
-    if first == line.len() {
-        return Verdict::Otherwise;
-    }
-    let start = first + 1;
-    let second = find(line, start, b',');
-    if second == line.len() {
-        return Verdict::Otherwise;
-    }
-    let rest = second + 1;
-    compare_fields(form, &line[0..first], &line[start..second], &line[rest..])
+    let taken = number_in(field(line, 2)) as usize;
+    compare_given(form, &octets[0..n], taken, field(line, 1))
 }
 
 // The verdict on the line, which is shown where it is bad.
@@ -207,16 +195,16 @@ pub(crate) fn compare_lines(name: &[u8], form: u32, text: &[u8]) {
     let mut listed: usize = 0;
     let mut stopped: usize = 0;
     let mut otherwise: usize = 0;
-    let mut at = find(text, 0, b'\n') + 1;
+    let mut at = part(text, 0, b'\n').len() + 1;
     while at < text.len() {
-        let end = find(text, at, b'\n');
-        let verdict = judge_line(name, form, &text[at..end]);
+        let line = part(text, at, b'\n');
+        let verdict = judge_line(name, form, line);
         texts += 1;
         same += one_if(verdict, Verdict::Same);
         listed += one_if(verdict, Verdict::Listed);
         stopped += one_if(verdict, Verdict::Stopped);
         otherwise += one_if(verdict, Verdict::Otherwise);
-        at = end + 1;
+        at += line.len() + 1;
     }
     print_totals(name, texts, same, listed, stopped, otherwise);
 }

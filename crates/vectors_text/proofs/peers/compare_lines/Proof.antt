@@ -7,15 +7,13 @@ use Rattle.vectors_text.proofs.peers.compare_lines.Statement.{statement
 use Rattle.vectors_text.proofs.peers.compare_lines.Tie as tie
 
 abbrev Inv-loop : tie.InvT-loop
-Inv-loop name form text texts₀ same₀ listed₀ stopped₀ otherwise₀ at₀ texts same listed stopped otherwise at =
-    (texts ≤ at) × ((same ≤ at) × ((listed ≤ at) × ((stopped ≤ at) × (otherwise ≤ at))))
+Inv-loop name form text texts₀ same₀ listed₀ stopped₀ otherwise₀ at₀ texts same listed stopped otherwise at = (texts ≤ at) × ((same ≤ at) × ((listed ≤ at) × ((stopped ≤ at) × (otherwise ≤ at))))
 
 abbrev μ-loop : tie.MeasureT-loop
-μ-loop name form text texts₀ same₀ listed₀ stopped₀ otherwise₀ at₀ texts same listed stopped otherwise at =
-    length text - at
+μ-loop name form text texts₀ same₀ listed₀ stopped₀ otherwise₀ at₀ texts same listed stopped otherwise at = length text - at
 
-find-requires : tie.Need-find-requires Inv-loop μ-loop
-find-requires c κs = search needs
+part-requires : tie.Need-part-requires Inv-loop μ-loop
+part-requires c κs = search needs
 
 add-at : tie.Need-add-at Inv-loop μ-loop
 add-at c = search needs
@@ -23,17 +21,8 @@ add-at c = search needs
 loop-holds : tie.Need-loop-holds Inv-loop μ-loop
 loop-holds c = search needs
 
-find-requires-2 : tie.Need-find-requires-2 Inv-loop μ-loop
-find-requires-2 c κs = search needs
-
-sub-judge-line : tie.Need-sub-judge-line Inv-loop μ-loop
-sub-judge-line c = search needs
-
-part-judge-line-start : tie.Need-part-judge-line-start Inv-loop μ-loop
-part-judge-line-start c = search needs
-
-part-judge-line-end : tie.Need-part-judge-line-end Inv-loop μ-loop
-part-judge-line-end c = search needs
+part-requires-2 : tie.Need-part-requires-2 Inv-loop μ-loop
+part-requires-2 c κs = search needs
 
 judge-line-requires : tie.Need-judge-line-requires Inv-loop μ-loop
 judge-line-requires c κs = search needs
@@ -68,6 +57,9 @@ add-otherwise c = search needs
 add-at-2 : tie.Need-add-at-2 Inv-loop μ-loop
 add-at-2 c = search needs
 
+add-at-3 : tie.Need-add-at-3 Inv-loop μ-loop
+add-at-3 c = search needs
+
 loop-less : tie.Need-loop-less Inv-loop μ-loop
 loop-less c = search needs
 
@@ -81,4 +73,4 @@ returns : tie.Need-returns Inv-loop μ-loop
 returns c = search needs
 
 pub compare-lines-spec : {M : Type 1} → statement M
-compare-lines-spec = tie.close (tie.spec Inv-loop μ-loop find-requires add-at loop-holds find-requires-2 sub-judge-line part-judge-line-start part-judge-line-end judge-line-requires add-texts one-if-requires add-same one-if-requires-2 add-listed one-if-requires-3 add-stopped one-if-requires-4 add-otherwise add-at-2 loop-less loop-again print-totals-requires returns)
+compare-lines-spec = tie.close (tie.spec Inv-loop μ-loop part-requires add-at loop-holds part-requires-2 judge-line-requires add-texts one-if-requires add-same one-if-requires-2 add-listed one-if-requires-3 add-stopped one-if-requires-4 add-otherwise add-at-2 add-at-3 loop-less loop-again print-totals-requires returns)

@@ -1,0 +1,44 @@
+-- `lines::room::fill_words` is safe and ends. The lent room keeps its length.
+-- The measure is what is left of the room. Assumes nothing.
+use Prim.Native.Nat.{_-_}
+use mathlib.Core.Path.{_≡_}
+use borrow.Author.Needs.{needs}
+use lib.ListN.{length}
+use Rattle.lines.proofs.room.fill_words.Statement.{statement}
+use Rattle.lines.proofs.room.fill_words.Tie as tie
+
+abbrev Inv-loop : tie.InvT-loop
+Inv-loop room₀ i₀ room i = length room ≡ length room₀
+
+abbrev μ-loop : tie.MeasureT-loop
+μ-loop room₀ i₀ room i = length room₀ - i
+
+loop-holds : tie.Need-loop-holds Inv-loop μ-loop
+loop-holds c = search needs
+
+word-before-requires : tie.Need-word-before-requires Inv-loop μ-loop
+word-before-requires c κs = search needs
+
+mul-room : tie.Need-mul-room Inv-loop μ-loop
+mul-room c = search needs
+
+slice-write-room : tie.Need-slice-write-room Inv-loop μ-loop
+slice-write-room c = search needs
+
+add-i : tie.Need-add-i Inv-loop μ-loop
+add-i c = search needs
+
+loop-less : tie.Need-loop-less Inv-loop μ-loop
+loop-less c = search needs
+
+loop-again : tie.Need-loop-again Inv-loop μ-loop
+loop-again c = search needs
+
+same-length : tie.Need-same-length Inv-loop μ-loop
+same-length c = search needs
+
+returns : tie.Need-returns Inv-loop μ-loop
+returns c = search needs
+
+pub fill-words-spec : {M : Type 1} → statement M
+fill-words-spec = tie.close (tie.spec Inv-loop μ-loop loop-holds word-before-requires mul-room slice-write-room add-i loop-less loop-again same-length returns)

@@ -1,0 +1,43 @@
+-- `lines::room::keeps_words` is safe and ends. Nothing has to hold from turn to turn.
+-- The measure is what is left of the room. Assumes nothing.
+use Prim.Native.Nat.{_-_}
+use borrow.Author.Needs.{needs}
+use lib.ListN.{length}
+use Rattle.lines.proofs.room.keeps_words.Statement.{statement}
+use Rattle.lines.proofs.room.keeps_words.Tie as tie
+
+abbrev Inv-loop : tie.InvT-loop
+Inv-loop room from i₀ i = Unit {0}
+
+abbrev μ-loop : tie.MeasureT-loop
+μ-loop room from i₀ i = length room - i
+
+loop-holds : tie.Need-loop-holds Inv-loop μ-loop
+loop-holds c = tt
+
+mul-if1 : tie.Need-mul-if1 Inv-loop μ-loop
+mul-if1 c = search needs
+
+shared-slice-read-if1 : tie.Need-shared-slice-read-if1 Inv-loop μ-loop
+shared-slice-read-if1 c = search needs
+
+word-before-requires : tie.Need-word-before-requires Inv-loop μ-loop
+word-before-requires c κs = search needs
+
+returns : tie.Need-returns Inv-loop μ-loop
+returns c = search needs
+
+add-i : tie.Need-add-i Inv-loop μ-loop
+add-i c = search needs
+
+loop-less : tie.Need-loop-less Inv-loop μ-loop
+loop-less c = search needs
+
+loop-again : tie.Need-loop-again Inv-loop μ-loop
+loop-again c = tt
+
+returns-2 : tie.Need-returns-2 Inv-loop μ-loop
+returns-2 c = search needs
+
+pub keeps-words-spec : {M : Type 1} → statement M
+keeps-words-spec = tie.close (tie.spec Inv-loop μ-loop loop-holds mul-if1 shared-slice-read-if1 word-before-requires returns add-i loop-less loop-again returns-2)

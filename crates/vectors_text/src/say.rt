@@ -1,9 +1,0 @@
-// What is printed, piece by piece, to standard output.
-
-pub(crate) fn say(text: &[u8]) {
-    io::write_all(1, text);
-}
-
-pub(crate) fn say_number(n: usize) {
-    io::print_decimal(1, n as u64);
-}
