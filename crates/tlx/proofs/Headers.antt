@@ -23,7 +23,7 @@ use Rattle.tlx.proofs.Tables.{lengths-take}
 
 -- ---- the mark
 
-mark-tests : (s : List ℕ) → 8 ≤ length s → begins mark s ≡ pick (eqb 0x54 (getD s 0 0)) (pick (eqb 0x4C (getD s 1 0)) (pick (eqb 0x58 (getD s 2 0)) true false) false) false
+pub mark-tests : (s : List ℕ) → 8 ≤ length s → begins mark s ≡ pick (eqb 0x54 (getD s 0 0)) (pick (eqb 0x4C (getD s 1 0)) (pick (eqb 0x58 (getD s 2 0)) true false) false) false
 unfolding begins
 mark-tests [] h = absurd (omega arith)
 mark-tests (a ∷ []) h = absurd (omega arith)
@@ -149,7 +149,7 @@ pub record Right (case : List ℕ) (form pages : ℕ) : Type 0 where
   pub few : pages ≤ 0x100
   pub size : length case ≡ 8 + 2 * pages + total (lengthsFor case pages)
 
-picked : {A : Type 0} (t : Bool) (a b x : A) → pick t a b ≡ x → (b ≡ x → ⊥) → (t ≡ true) × (a ≡ x)
+pub picked : {A : Type 0} (t : Bool) (a b x : A) → pick t a b ≡ x → (b ≡ x → ⊥) → (t ≡ true) × (a ≡ x)
 picked true a b x e n = (refl, e)
 picked false a b x e n = absurd (n e)
 

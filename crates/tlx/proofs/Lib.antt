@@ -6,3 +6,4 @@ mod Pages
 mod Fills
 mod Rooms
 mod OnePage
+pub mod Checked
