@@ -57,7 +57,7 @@ nothing-is form q i = let f = is-found form i in let e = f .1 in let z : _≡_ {
 
 -- ---- the mark
 
-mark-begins : (s : List ℕ) → take 3 s ≡ mark → begins mark s ≡ true
+pub mark-begins : (s : List ℕ) → take 3 s ≡ mark → begins mark s ≡ true
 unfolding begins
 mark-begins [] e = let z : _≡_ {A = ℕ} 0 1 = cc in absurd (omega arith)
 mark-begins (a ∷ []) e = let z : _≡_ {A = ℕ} 0 1 = cc in absurd (omega arith)

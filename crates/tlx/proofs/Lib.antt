@@ -7,3 +7,4 @@ mod Fills
 mod Rooms
 mod OnePage
 pub mod Checked
+pub mod Laid
