@@ -38,7 +38,7 @@ use Rattle.text.specs.Answers.{limit, inForm, within-limit, same, measur
 use Rattle.text.specs.Table.{Answered, Formed, Tells, ReadingFault, WritingFault, ConvertingFault, ReadTable, WriteTable, ConvertTable, LoneTable}
 use Rattle.text.proofs.Tables.{Meets, by-table, by-form, in-its-form, no-form-exactly, tells, kept, kept-in-form}
 use Rattle.text.proofs.Converting.{read-meets, convert-meets, respelt-means, read-converts, Alike, respelt-alike}
-use Rattle.text.proofs.Edges.{a-form, converted}
+use Rattle.text.proofs.Edges.{a-form, fitting, converted}
 use Rattle.text.proofs.Lone.{lone-exactly}
 use Rattle.text.proofs.Readings.{All, readings, sixteen}
 
@@ -183,6 +183,12 @@ one-answer form target text words out at = (
   once-both (convertAnswer form target text (length out)) (convertText form target text out),
   once (loneStep form text at),
 )
+
+-- in its form and within the limit, a text is answered by what it comes to
+pub read-answers : (f : Form) (form : ℕ) → formOf form ≡ Is f → (text : List ℕ) → length text ≤ limit → (words : List ℕ)
+    → (readAnswer form text (length words) ≡ answerOf wordsOf (length text) (length words) (readIn f text)) × (readWords form text words ≡ writtenOf wordsOf words (readIn f text))
+unfolding readAnswer readWords
+read-answers f form q text l words = (sym (a-form _ _ _ _ _ q (fitting text _ _ l)), sym (a-form _ _ _ _ _ q (fitting text _ _ l)))
 
 -- ======== Demand 2: what is accepted, and what it means; canonical spelling
 
