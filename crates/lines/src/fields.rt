@@ -1,6 +1,7 @@
 // The fields of a line, with commas between, and the hexadecimal digits in them.
 ghost use Prim.Native.Nat.{_≤_, _<_, _-_};
 ghost use lib.ListN.{length};
+ghost use Rattle.io.specs.Counts.{Counts};
 
 // The place of the first `wanted` from `at` on, or the end of the text.
 fn find(text: &[u8], at: usize, wanted: u8) -> usize
@@ -96,7 +97,9 @@ fn octet_at(text: &[u8], at: usize) -> u8 {
 }
 
 // Puts the octets that are written as `C265`, and answers how many there are, as far as there is room.
-pub fn octets_in(text: &[u8], out: &mut [u8]) -> usize {
+pub fn octets_in(text: &[u8], out: &mut [u8]) -> usize
+    ensures { λ r. ⌜ Counts r (now (out .exit)) ⌝ }
+{
     let mut i = 0;
     while i < text.len() / 2 {
         if out.len() <= i {
@@ -109,7 +112,9 @@ pub fn octets_in(text: &[u8], out: &mut [u8]) -> usize {
 }
 
 // Puts the words that are written as `04006D01 0004`, and answers how many there are, as far as there is room.
-pub fn words_in(text: &[u8], out: &mut [u32]) -> usize {
+pub fn words_in(text: &[u8], out: &mut [u32]) -> usize
+    ensures { λ r. ⌜ Counts r (now (out .exit)) ⌝ }
+{
     let mut n = 0;
     let mut at = 0;
     while at < text.len() {

@@ -8,6 +8,7 @@ use alphabet::FormFound;
 use alphabet::Sort;
 use alphabet::Spelling;
 use lines::say::say;
+use lines::say::say_number;
 use say::say_code_point;
 use say::say_form;
 use say::say_found;
@@ -35,7 +36,7 @@ fn entries_of(table: Table) -> u32 {
 
 fn print_form(number: u32) {
     say(b"form ");
-    io::print_decimal(1, number as u64);
+    say_number(number as usize);
     say(b" =");
     let found = alphabet::form_of(number);
     match found {

@@ -5,6 +5,7 @@ use alphabet::Sort;
 use alphabet::Spelling;
 use lines::answer::digit;
 use lines::say::say;
+use lines::say::say_number;
 
 pub(crate) fn say_octet(octet: u8) {
     let n = octet as u32;
@@ -55,7 +56,7 @@ pub(crate) fn say_sort(sort: Sort) {
         Sort::SequenceStart => say(b" sequence"),
         Sort::Refused(number) => {
             say(b" refused ");
-            io::print_decimal(1, number as u64);
+            say_number(number as usize);
         }
     }
 }

@@ -58,32 +58,16 @@ fn put_spellings(out: &mut [u8], at: usize, e: Element) -> usize {
     put_spelling(out, second, Form::Basic, e)
 }
 
-// Reads the first `n` octets alone.
-fn read_first(form: Form, octets: &[u8], n: usize, place: usize) -> Step {
-    if octets.len() < n {
-        return Step::End;
-    }
-    element::element_at(form, &octets[0..n], place)
-}
-
-// Takes the first `n` words alone.
-fn take_first(words: &[u32], n: usize, place: usize) -> Step {
-    if words.len() < n {
-        return Step::End;
-    }
-    element::element_of(&words[0..n], place)
-}
-
 fn element_read(form: Form, text: &[u8], place: usize) -> Step {
     let mut octets = [0; 64];
     let n = octets_in(text, &mut octets);
-    read_first(form, &octets, n, place)
+    element::element_at(form, &octets[..n], place)
 }
 
 fn element_taken(text: &[u8], place: usize) -> Step {
     let mut words = [0; 16];
     let n = words_in(text, &mut words);
-    take_first(&words, n, place)
+    element::element_of(&words[..n], place)
 }
 
 fn answer_reading(out: &mut [u8], form: Form, text: &[u8], place: usize) -> usize {

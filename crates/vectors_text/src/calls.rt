@@ -52,48 +52,13 @@ fn convert_into(source: u32, target: u32, octets: &[u8], out: &mut [u8], room: u
     text::convert(source, target, octets, &mut out[0..room])
 }
 
-fn read_first(form: u32, octets: &[u8], n: usize, words: &mut [u32], room: usize) -> Answer {
-    if octets.len() < n {
-        return unasked();
-    }
-    read_into(form, &octets[0..n], words, room)
-}
-
-fn write_first(form: u32, words: &[u32], n: usize, octets: &mut [u8], room: usize) -> Answer {
-    if words.len() < n {
-        return unasked();
-    }
-    write_into(form, &words[0..n], octets, room)
-}
-
-fn convert_first(
-    source: u32,
-    target: u32,
-    octets: &[u8],
-    n: usize,
-    out: &mut [u8],
-    room: usize,
-) -> Answer {
-    if octets.len() < n {
-        return unasked();
-    }
-    convert_into(source, target, &octets[0..n], out, room)
-}
-
-fn step_first(form: u32, octets: &[u8], n: usize, at: usize) -> Step {
-    if octets.len() < n {
-        return Step::End;
-    }
-    text::read_element(form, &octets[0..n], at)
-}
-
 // The text's answer, and the words that it puts.
 pub(crate) fn answer_reading(out: &mut [u8], form: u32, entries: &[u8], room: usize) -> usize {
     let mut octets = [0; 512];
     let n = octets_in(entries, &mut octets);
     let mut words = [0; 512];
     fill_words(&mut words);
-    let answer = read_first(form, &octets, n, &mut words, room);
+    let answer = read_into(form, &octets[..n], &mut words, room);
     let next = put_answer(out, answer);
     put_words(out, next, &words, written(answer))
 }
@@ -104,7 +69,7 @@ pub(crate) fn answer_writing(out: &mut [u8], form: u32, entries: &[u8], room: us
     let n = words_in(entries, &mut words);
     let mut octets = [0; 1024];
     fill_octets(&mut octets);
-    let answer = write_first(form, &words, n, &mut octets, room);
+    let answer = write_into(form, &words[..n], &mut octets, room);
     let next = put_answer(out, answer);
     put_octets(out, next, &octets, written(answer))
 }
@@ -122,7 +87,7 @@ pub(crate) fn answer_converting(
     let n = octets_in(entries, &mut octets);
     let mut converted = [0; 1024];
     fill_octets(&mut converted);
-    let answer = convert_first(pair[0], pair[1], &octets, n, &mut converted, room);
+    let answer = convert_into(pair[0], pair[1], &octets[..n], &mut converted, room);
     let next = put_answer(out, answer);
     put_octets(out, next, &converted, written(answer))
 }
@@ -154,5 +119,5 @@ fn put_step(out: &mut [u8], step: Step) -> usize {
 pub(crate) fn answer_element(out: &mut [u8], form: u32, entries: &[u8], at: usize) -> usize {
     let mut octets = [0; 512];
     let n = octets_in(entries, &mut octets);
-    put_step(out, step_first(form, &octets, n, at))
+    put_step(out, text::read_element(form, &octets[..n], at))
 }

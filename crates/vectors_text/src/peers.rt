@@ -139,20 +139,14 @@ fn compare_taken(form: u32, octets: &[u8], taken: usize, theirs: &[u32]) -> Verd
 fn compare_given(form: u32, octets: &[u8], taken: usize, given: &[u8]) -> Verdict {
     let mut theirs = [0; 256];
     let n = words_in(given, &mut theirs);
-    if theirs.len() < n {
-        return Verdict::Otherwise;
-    }
-    compare_taken(form, octets, taken, &theirs[0..n])
+    compare_taken(form, octets, taken, &theirs[..n])
 }
 
 fn compare_line(form: u32, line: &[u8]) -> Verdict {
     let mut octets = [0; 256];
     let n = octets_in(field(line, 0), &mut octets);
-    if octets.len() < n {
-        return Verdict::Otherwise;
-    }
     let taken = number_in(field(line, 2)) as usize;
-    compare_given(form, &octets[0..n], taken, field(line, 1))
+    compare_given(form, &octets[..n], taken, field(line, 1))
 }
 
 // The verdict on the line, which is shown where it is bad.

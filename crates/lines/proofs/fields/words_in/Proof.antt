@@ -1,14 +1,15 @@
--- `lines::fields::words_in` is safe and ends. The lent room keeps its length.
+-- `lines::fields::words_in` is safe and ends. The lent room keeps its length, and what is put is within it.
 -- The measure is what is left of the text. Assumes nothing.
-use Prim.Native.Nat.{_-_}
+use Prim.Native.Nat.{_≤_, _-_}
 use mathlib.Core.Path.{_≡_}
 use lib.ListN.{length}
 use borrow.Author.Needs.{needs}
+use Rattle.lines.proofs.Counted.{counted}
 use Rattle.lines.proofs.fields.words_in.Statement.{statement}
 use Rattle.lines.proofs.fields.words_in.Tie as tie
 
 abbrev Inv-loop : tie.InvT-loop
-Inv-loop text out₀ n₀ at₀ out n at = length out ≡ length out₀
+Inv-loop text out₀ n₀ at₀ out n at = (length out ≡ length out₀) × (n ≤ length out₀)
 
 abbrev μ-loop : tie.MeasureT-loop
 μ-loop text out₀ n₀ at₀ out n at = length text - at
@@ -20,7 +21,7 @@ same-length : tie.Need-same-length Inv-loop μ-loop
 same-length c = search needs
 
 returns : tie.Need-returns Inv-loop μ-loop
-returns c = search needs
+returns c = counted _ _ (search needs)
 
 part-requires : tie.Need-part-requires Inv-loop μ-loop
 part-requires c κs = search needs
@@ -53,7 +54,7 @@ same-length-2 : tie.Need-same-length-2 Inv-loop μ-loop
 same-length-2 c = search needs
 
 returns-2 : tie.Need-returns-2 Inv-loop μ-loop
-returns-2 c = search needs
+returns-2 c = counted _ _ (search needs)
 
 pub words-in-spec : {M : Type 1} → statement M
 words-in-spec = tie.close (tie.spec Inv-loop μ-loop loop-holds same-length returns part-requires number-in-requires mul-out slice-write-out add-at add-at-2 add-n loop-less loop-again same-length-2 returns-2)
