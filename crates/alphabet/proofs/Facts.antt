@@ -2,8 +2,8 @@
 -- into the fact.
 -- Assumes nothing.
 use Prim.Native.Nat.{ℕ, _<_}
-use mathlib.Core.Path.{_≡_, refl, sym, ap, _∙_, subst}
-use mathlib.Core.List.{List, map, List·Memᴰ}
+use mathlib.Core.Path.{_≡_, refl, ap}
+use mathlib.Core.List.{map}
 use mathlib.Core.Bool.{Bool, true, false}
 use mathlib.Core.Logic.{_⊎_}
 use native.Mathlib.Omega.{arith}
@@ -17,7 +17,7 @@ use Rattle.alphabet.specs.declared.Sort.the-variants.{Graphic, Mark, Und
 use Rattle.alphabet.specs.declared.Found.{Found}
 use Rattle.alphabet.specs.declared.Found.the-variants.{Char, Nothing}
 use Rattle.alphabet.specs.declared.Spelling.{Spelling}
-use Rattle.alphabet.specs.Cells.{Cell, _is_, octet, meaning}
+use Rattle.alphabet.specs.Cells.{_is_, octet, meaning}
 use Rattle.alphabet.specs.Squares.{Square, sq, character, squares, squareOf}
 use Rattle.alphabet.specs.Forms.{alphabetOf, SS2}
 use Rattle.alphabet.specs.Sorts.{sortIn, shiftedIn}

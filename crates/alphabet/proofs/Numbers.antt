@@ -20,7 +20,7 @@ use Rattle.alphabet.specs.declared.Spelling.the-variants.{One, Shifted, 
 use Rattle.alphabet.specs.Forms.{formOf, formNumber}
 use Rattle.alphabet.specs.Squares.{squareOf, foundNumber}
 use Rattle.alphabet.specs.Sorts.{sortIn, shiftedIn, sortNumber}
-use Rattle.alphabet.specs.Spelling.{Codes, Canonical, spellIn, spellingNumber}
+use Rattle.alphabet.specs.Spelling.{Codes, spellIn, spellingNumber}
 use Rattle.alphabet.proofs.Canonical.{exactly, reads-back, has-canonical}
 use Rattle.alphabet.proofs.Facts.{refused-numbers, AfterShift, after-shift}
 

@@ -3,7 +3,7 @@
 -- Assumes nothing.
 use Prim.Native.Nat.{ℕ, _+_, _/_, _%_, _≤_, _<_}
 use mathlib.Core.Path.{_≡_, refl, sym, ap, _∙_}
-use mathlib.Core.List.{List, [], _∷_}
+use mathlib.Core.List.{List}
 use lib.Dec.{eqb}
 use lib.ListN.{getD}
 use borrow.Author.Tests.{eq-eqb, ne-eqb, le-leb, lt-leb}
@@ -12,8 +12,7 @@ use Rattle.run.proofs.Range.{listed, within²}
 use Rattle.run.proofs.Search.{filled as filled-entries, Left, goes-on, hits, at-end}
 use Rattle.alphabet.specs.declared.Found.{Found}
 use Rattle.alphabet.specs.declared.Found.the-variants.{Char, Nothing}
-use Rattle.alphabet.specs.declared.Pairing.{Pairing}
-use Rattle.alphabet.specs.declared.Pairing.the-variants.{Of, Nowhere}
+use Rattle.alphabet.specs.declared.Pairing.the-variants.{Nowhere}
 use Rattle.alphabet.specs.Squares.{Square, sq, character, pairing, squares, pairIn, pairOf, squareOf, rowOf, columnOf, entryAt, pairAt, marks, followers}
 
 -- ---- past the table

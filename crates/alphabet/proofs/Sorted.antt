@@ -13,7 +13,7 @@ use Rattle.alphabet.specs.declared.Sort.{Sort}
 use Rattle.alphabet.specs.declared.Sort.the-variants.{Graphic, Mark, Underline, Shift, Control, SequenceStart, Refused}
 use Rattle.alphabet.specs.declared.Found.{Found}
 use Rattle.alphabet.specs.declared.Found.the-variants.{Char, Nothing}
-use Rattle.alphabet.specs.declared.Octet.the-variants.{Is, Absent}
+use Rattle.alphabet.specs.declared.Octet.the-variants.{Is}
 use Rattle.alphabet.specs.Cells.{Cell, _is_, octet, meaning, charIn, octetIn}
 use Rattle.alphabet.specs.Forms.{Alphabet, alphabetOf}
 use Rattle.alphabet.specs.Sorts.{tooHigh, markOrGraphic, sortBy, shiftedBy, sortIn, shiftedIn}

@@ -1,7 +1,7 @@
 -- What the canonical spelling is at each way out of the code that looks for it. The facts of the tables are tests over the form, which antt
 -- computes; what is made of them is proved once over it.
 -- Assumes nothing.
-use Prim.Native.Nat.{ℕ, _≤_, _<_, _%_}
+use Prim.Native.Nat.{ℕ, _<_}
 use mathlib.Core.Path.{_≡_, refl, sym, ap, _∙_}
 use mathlib.Core.List.{List, [], _∷_, _++_, map}
 use mathlib.Core.Bool.{Bool, true, false}
@@ -19,13 +19,13 @@ use Rattle.alphabet.specs.declared.Octet.the-variants.{Is, Absent}
 use Rattle.alphabet.specs.declared.Pairing.{Pairing}
 use Rattle.alphabet.specs.declared.Pairing.the-variants.{Of, Nowhere}
 use Rattle.alphabet.specs.declared.Spelling.{Spelling}
-use Rattle.alphabet.specs.declared.Spelling.the-variants.{One, Shifted, Pair, ShiftedPair, Unspelt}
+use Rattle.alphabet.specs.declared.Spelling.the-variants.{One, Unspelt}
 use Rattle.alphabet.specs.Cells.{Cell, octet, meaning, octetIn}
 use Rattle.alphabet.specs.Tables.{supplementary}
-use Rattle.alphabet.specs.Squares.{Square, sq, character, pairing, squares, pairOf}
-use Rattle.alphabet.specs.Forms.{Alphabet, alphabetOf}
+use Rattle.alphabet.specs.Squares.{character, pairing, squares, pairOf}
+use Rattle.alphabet.specs.Forms.{alphabetOf}
 use Rattle.alphabet.specs.Sorts.{sortIn, plainIn}
-use Rattle.alphabet.specs.Spelling.{oneOr, shiftedOr, pairBy, octetBy, spellIn, asciiOctet, plainOctet, spellSpacing, spellPair}
+use Rattle.alphabet.specs.Spelling.{pairBy, octetBy, spellIn, asciiOctet, plainOctet, spellSpacing, spellPair}
 
 abbrev pub isOctet : Cell → Octet
 isOctet cell = Is (octet cell)

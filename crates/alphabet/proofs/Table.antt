@@ -10,11 +10,11 @@ use lib.ListN.{getD}
 use borrow.Author.Tests.{ne-eqb}
 use Rattle.run.specs.Choice.{pick}
 use Rattle.run.proofs.Range.{listed, within}
-use Rattle.run.proofs.Search.{Hit, hit, Place, placed}
+use Rattle.run.proofs.Search.{hit, placed}
 use Rattle.alphabet.specs.declared.Found.{Found}
 use Rattle.alphabet.specs.declared.Found.the-variants.{Char, Nothing}
 use Rattle.alphabet.specs.declared.Octet.{Octet}
-use Rattle.alphabet.specs.declared.Octet.the-variants.{Is, Absent}
+use Rattle.alphabet.specs.declared.Octet.the-variants.{Absent}
 use Rattle.alphabet.specs.declared.Pairing.{Pairing}
 use Rattle.alphabet.specs.declared.Pairing.the-variants.{Of, Nowhere}
 use Rattle.alphabet.specs.Cells.{Cell, _is_, octet, meaning, octetIn}

@@ -1,7 +1,7 @@
 -- What an octet begins: one definition, over what document 01 says of a form.
 -- Assumes nothing.
 use Prim.Native.Nat.{ℕ, _+_}
-use mathlib.Core.Bool.{Bool, true, false}
+use mathlib.Core.Bool.{Bool, false}
 use lib.Dec.{eqb, leb}
 use Rattle.run.specs.Choice.{pick, oneOf}
 use Rattle.alphabet.specs.declared.Form.{Form}

@@ -1,6 +1,6 @@
 -- The deciding octet is the first at which no continuation is accepted. Stated with the grammar alone, over the form.
 -- Assumes nothing.
-use Prim.Native.Nat.{ℕ, suc, _+_, _≤_, _<_}
+use Prim.Native.Nat.{ℕ, suc, _≤_, _<_}
 use mathlib.Core.Path.{_≡_, refl, sym, ap, _∙_, subst}
 use mathlib.Core.Logic.{_↔_, _⊎_, inl, inr, ⊎-elim}
 use mathlib.Core.Bool.{Bool, true, false}
@@ -12,13 +12,12 @@ use lib.Dec.{eqb, lit≤}
 use borrow.Author.Tests.{eqb-true, eqb-false}
 use native.Mathlib.Numerals.{add-one}
 use Rattle.run.specs.Head.{Head, element, refused, none}
-use Rattle.run.specs.Grammar.{Begins, Reads}
 use Rattle.alphabet.specs.declared.Form.{Form}
-use Rattle.alphabet.specs.declared.Sort.the-variants.{Graphic, Mark, Underline, Shift, Control, SequenceStart, Refused}
+use Rattle.alphabet.specs.declared.Sort.the-variants.{Underline, Shift, SequenceStart}
 use Rattle.alphabet.specs.Sorts.{sortIn}
 use Rattle.alphabet.proofs.Facts.{mark-space, shifted-mark-space, space-sorts, shift-is, sequence-is}
 use Rattle.sequence.specs.Kinds.{CSI}
-use Rattle.sequence.specs.Grammar.{Sequence, SpellsSequence, RefusesSequence}
+use Rattle.sequence.specs.Grammar.{RefusesSequence}
 use Rattle.sequence.specs.Reading.{sequenceHead}
 use Rattle.sequence.proofs.Refusals.{stays, goes-on, cut-off}
 use Rattle.element.specs.declared.Element.{Element}

@@ -1,6 +1,6 @@
 -- What each way out of the code that makes an element of words rests on.
 -- Assumes nothing.
-use Prim.Native.Nat.{ℕ, suc, _+_, _*_, _-_, _/_, _%_, _≤_, _<_, min}
+use Prim.Native.Nat.{ℕ, _+_, _-_, _/_, _%_, _≤_, _<_, min}
 use mathlib.Core.Path.{_≡_, refl, sym, ap, ap₂, _∙_, subst}
 use mathlib.Core.Bool.{Bool, true, false}
 use mathlib.Core.List.{List, [], _∷_, _++_}
@@ -14,9 +14,8 @@ use Rattle.run.proofs.Puts.{put-as, put-both}
 use lib.Dec.{eqb, ltb}
 use borrow.Author.Tests.{lt-ltb, le-ltb, ltb-true, ltb-false, le-leb, lt-leb, eq-eqb, ne-eqb, eqb-true, eqb-false}
 use Rattle.run.specs.Choice.{pick}
-use Rattle.run.specs.Head.{Head, element, refused, none}
+use Rattle.run.specs.Head.{element}
 use Rattle.sequence.specs.declared.Values.{Values}
-use Rattle.sequence.specs.Grammar.{Sequence}
 use Rattle.alphabet.specs.declared.Form.{Form}
 use Rattle.alphabet.specs.Sorts.{sortIn}
 use Rattle.sequence.specs.Kinds.{CSI}
@@ -25,7 +24,6 @@ use Rattle.sequence.specs.Spelling.{Fine, isFine, spellSequence, sizeOf, putSeq
 use Rattle.sequence.proofs.Spellings.{fine-test, size-some}
 use Rattle.element.specs.declared.Element.{Element}
 use Rattle.element.specs.declared.Element.the-variants.{One, Sequence as SequenceOf}
-use Rattle.element.specs.declared.Step.{Step}
 use Rattle.element.specs.declared.Step.the-variants.{Element as Read, Refused as Stopped, End}
 use Rattle.element.specs.Words.{headWord, sequenceElement, wordsOf, sequenceOf, isSequence, wordHead}
 use Rattle.element.specs.Spelling.{isStart, spellWord, spellSequenceWords, spellElement, wordStep, wordsAt, fitting}

@@ -1,15 +1,14 @@
 -- The reader finds exactly `Spells` and refuses exactly by `Refuses`, over the form.
 -- Assumes nothing.
-use Prim.Native.Nat.{ℕ, zero, suc, _+_, _≤_, _<_}
+use Prim.Native.Nat.{ℕ, _≤_, _<_}
 use mathlib.Core.Path.{_≡_, refl, sym, ap, _∙_, subst}
 use mathlib.Core.Logic.{_↔_, _⊎_, inl, inr, ⊎-elim}
 use mathlib.Core.Bool.{Bool, true, false}
 use mathlib.Core.List.{List, [], _∷_, _++_, append-assoc, append-nil}
 use native.Mathlib.Omega.{arith}
 use lib.ListN.{length, length-append}
-use lib.Dec.{eqb, lit<, lit≤}
+use lib.Dec.{eqb, lit<}
 use borrow.Author.Tests.{ne-eqb, eqb-true, eqb-false}
-use Rattle.run.specs.Choice.{pick}
 use Rattle.run.specs.Head.{Head, element, refused, none}
 use Rattle.run.specs.Grammar.{Begins, Reads}
 use Rattle.alphabet.specs.declared.Form.{Form}
@@ -26,7 +25,7 @@ use Rattle.sequence.specs.Reading.{sequenceHead}
 use Rattle.sequence.proofs.Reader.{sequence-reads, refuses-exactly}
 use Rattle.element.specs.declared.Element.{Element}
 use Rattle.element.specs.declared.Element.the-variants.{One}
-use Rattle.element.specs.Words.{graphicWord, controlWord, sequenceElement}
+use Rattle.element.specs.Words.{graphicWord, sequenceElement}
 use Rattle.element.specs.Grammar.{Awaits, Spells, MayNot, Refuses}
 use Rattle.element.specs.Reading.{highOr3, pairHead, followerHead, shiftedSort, shiftedHead, underlinedSort, underlinedHead, asElement, headSort, headIn}
 

@@ -1,9 +1,9 @@
 -- What each way out of the code that reads an element rests on: the definition at a place of a text, by the octet there.
 -- Assumes nothing.
-use Prim.Native.Nat.{ℕ, suc, _+_, _*_, _-_, _≤_, _<_}
-use mathlib.Core.Path.{_≡_, refl, sym, ap, ap₂, _∙_, subst}
-use mathlib.Core.Bool.{Bool, true, false}
-use mathlib.Core.List.{List, [], _∷_, _++_}
+use Prim.Native.Nat.{ℕ, _+_, _*_, _-_, _≤_, _<_}
+use mathlib.Core.Path.{_≡_, refl, sym, ap, ap₂, _∙_}
+use mathlib.Core.Bool.{Bool}
+use mathlib.Core.List.{List, _∷_}
 use native.Mathlib.Nat.{add-zero}
 use native.Mathlib.Numerals.{add-one}
 use native.Mathlib.Omega.{arith}
@@ -17,16 +17,12 @@ use Rattle.alphabet.specs.declared.Found.{Found}
 use Rattle.alphabet.specs.declared.Found.the-variants.{Char, Nothing}
 use Rattle.alphabet.specs.Squares.{squareOf}
 use Rattle.alphabet.specs.Sorts.{sortIn, shiftedIn}
-use Rattle.element.specs.declared.Element.{Element}
 use Rattle.element.specs.declared.Element.the-variants.{One, Sequence as SequenceOf}
 use Rattle.sequence.specs.declared.Values.{Values}
-use Rattle.sequence.specs.declared.Reading.{Reading}
 use Rattle.sequence.specs.declared.Reading.the-variants.{Whole, Refused as Bad, End as NoMore}
 use Rattle.sequence.specs.Grammar.{Sequence}
 use Rattle.sequence.specs.Reading.{sequenceHead, valuesOf, readingOf, readingAt}
-use Rattle.sequence.specs.Spelling.{Fine}
 use Rattle.sequence.proofs.Back.{read-fine}
-use Rattle.element.specs.declared.Step.{Step}
 use Rattle.element.specs.declared.Step.the-variants.{Element as Read, Refused as Stopped, End}
 use Rattle.element.specs.Words.{graphicWord, headWord}
 use Rattle.element.specs.Reading.{highOr3, pairHead, followerHead, shiftedSort, shiftedHead, underlinedSort, underlinedHead, asElement, headSort, headIn, stepOf, stepAt}

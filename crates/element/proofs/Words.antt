@@ -1,14 +1,14 @@
 -- Words and elements: the words of an element are read back as that element.
 -- Assumes nothing.
-use Prim.Native.Nat.{ℕ, suc, _+_, _*_, _-_, _/_, _%_, _≤_, _<_}
+use Prim.Native.Nat.{ℕ, _+_, _-_, _/_, _%_, _≤_, _<_}
 use mathlib.Core.Path.{_≡_, refl, sym, ap, ap₂, _∙_, subst, subst₂}
 use mathlib.Core.Bool.{Bool, true, false}
 use mathlib.Core.List.{List, [], _∷_, _++_}
 use native.Mathlib.Omega.{arith}
-use lib.ListN.{length, take, drop, length-append, take-append-drop}
+use lib.ListN.{length, take, drop, take-append-drop}
 use lib.Seq.{take-append-seam}
 use lib.Dec.{ltb, eqb}
-use borrow.Author.Tests.{lt-ltb, le-ltb, ltb-true, ltb-false, eq-eqb, eqb-true}
+use borrow.Author.Tests.{lt-ltb, le-ltb, ltb-true, eq-eqb, eqb-true}
 use Rattle.run.specs.Choice.{pick}
 use Rattle.run.proofs.Choices.{pick-case}
 use Rattle.run.specs.Head.{Head, element, refused, none}
@@ -17,7 +17,7 @@ use Rattle.sequence.specs.Reading.{valuesOf, listOf}
 use Rattle.sequence.specs.Spelling.{Fine, isFine}
 use Rattle.sequence.proofs.Spellings.{fine-test}
 use Rattle.element.specs.declared.Element.{Element}
-use Rattle.element.specs.declared.Element.the-variants.{One, Sequence as SequenceOf}
+use Rattle.element.specs.declared.Element.the-variants.{One}
 use Rattle.element.specs.Words.{headWord, sequenceElement, wordsOf, sequenceOf, isSequence, wordHead}
 
 -- eight values at most are kept by the struct of eight

@@ -1,15 +1,15 @@
 -- Canonical spelling of an element: the definition gives exactly the relation; it reads back; what a form reads it holds; and writing keeps the
 -- record of promises of `run`. Over the form.
 -- Assumes nothing.
-use Prim.Native.Nat.{ℕ, suc, _+_, _-_, _≤_, _<_}
+use Prim.Native.Nat.{ℕ, _+_, _-_, _≤_, _<_}
 use mathlib.Core.Path.{_≡_, refl, sym, ap, ap₂, _∙_, subst, subst₂}
 use mathlib.Core.Logic.{_↔_}
 use mathlib.Core.Bool.{Bool, true, false}
-use mathlib.Core.List.{List, [], _∷_, _++_, append-assoc, append-nil}
+use mathlib.Core.List.{List, [], _∷_, _++_}
 use native.Mathlib.Omega.{arith}
-use lib.ListN.{length, take, drop, length-append}
+use lib.ListN.{length}
 use lib.Dec.{ltb, lit<}
-use borrow.Author.Tests.{lt-ltb, le-ltb, ltb-true, ltb-false}
+use borrow.Author.Tests.{lt-ltb, le-ltb, ltb-false}
 use Rattle.run.specs.Choice.{pick}
 use Rattle.run.specs.Head.{Head, element, refused, none}
 use Rattle.run.specs.Grammar.{Begins, Reads}
@@ -20,20 +20,19 @@ use Rattle.alphabet.specs.declared.Sort.the-variants.{Graphic, Mark, Underline,
 use Rattle.alphabet.specs.declared.Spelling.{Spelling}
 use Rattle.alphabet.specs.declared.Spelling.the-variants.{One as Single, Shifted, Pair, ShiftedPair, Unspelt}
 use Rattle.alphabet.specs.Forms.{SS2}
-use Rattle.alphabet.specs.Sorts.{sortIn, shiftedIn}
+use Rattle.alphabet.specs.Sorts.{sortIn}
 use Rattle.alphabet.specs.Spelling.{octetsOf, Codes, Canonical, spellIn}
 use Rattle.alphabet.proofs.Canonical.{exactly, reads-back, has-canonical}
 use Rattle.alphabet.proofs.Facts.{shift-is, underline-is, sequence-is, control-small, code-point-small}
 use Rattle.sequence.specs.Kinds.{CSI}
 use Rattle.sequence.specs.Grammar.{Sequence, SpellsSequence}
-use Rattle.sequence.specs.Reading.{listOf, sequenceHead}
 use Rattle.sequence.specs.Spelling.{Fine, CanonicalSequence, spellSequence}
 use Rattle.sequence.proofs.Reader.{sequence-reads}
 use Rattle.sequence.proofs.Back.{read-fine}
 use Rattle.sequence.proofs.Spellings.{canonical-exactly, spells-canonical}
 use Rattle.element.specs.declared.Element.{Element}
 use Rattle.element.specs.declared.Element.the-variants.{One, Sequence as SequenceOf}
-use Rattle.element.specs.Words.{graphicWord, controlWord, headWord, sequenceElement, wordsOf, sequenceOf, isSequence, wordHead}
+use Rattle.element.specs.Words.{graphicWord, controlWord, headWord, sequenceElement, wordsOf, sequenceOf, wordHead}
 use Rattle.element.specs.Grammar.{Awaits, Spells}
 use Rattle.element.specs.Spelling.{CC, CanonicalElement, Held, Writes, NoneHeld, isUnderline, isControl, isStart, afterCC, spellWord, spellSequenceWords, spellElement, octetsOr10, spelt, spellHead}
 use Rattle.element.proofs.Words.{values-back, sequence-back, is-sequence, words-of, words-head, one-head, Word-view, a-word, a-sequence, no-element, no-word, word-view}

@@ -64,7 +64,7 @@ pub data Refuses (f : Form) : List ℕ → ℕ → ℕ → Type 0 where
   ends-after-mark : {p : List ℕ} {m : ℕ} {u : Bool} → Awaits f p m u → Refuses f p 4 (length p)
   ends-after-shift : {s : ℕ} → sortIn f s ≡ Shift → Refuses f (s ∷ []) 4 1
   ends-after-underline : {u : ℕ} → sortIn f u ≡ Underline → Refuses f (u ∷ []) 4 1
-  -- 5: "form 2, octet 80 or above": as the first octet, after SS2, as a follower, after CC (in a form that had both)
+  -- 5: "form 2, octet 80 or above": as the first octet, after SS2, as a follower, after CC (no form has both CC and number 5)
   high : {o : ℕ} {t : List ℕ} → sortIn f o ≡ Refused 5 → Refuses f (o ∷ t) 5 0
   high-after-shift : {s o : ℕ} {t : List ℕ} → sortIn f s ≡ Shift → shiftedIn f o ≡ Refused 5 → Refuses f (s ∷ o ∷ t) 5 1
   high-follower : {p : List ℕ} {m : ℕ} {u : Bool} (l : ℕ) (t : List ℕ) → Awaits f p m u → sortIn f l ≡ Refused 5 → Refuses f (p ++ (l ∷ t)) 5 (length p)

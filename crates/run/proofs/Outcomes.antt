@@ -5,12 +5,11 @@ use mathlib.Core.Path.{_≡_, refl, sym, _∙_, ap, ap₂, subst}
 use mathlib.Core.List.{List, [], _∷_, _++_, append-assoc, append-nil}
 use Prim.Native.Nat.{ℕ, zero, suc, _+_, _-_, _<_, _≤_}
 use native.Mathlib.Nat.{add-assoc, zero-add, add-zero}
-use native.Mathlib.Numerals.{one-add}
 use native.Mathlib.Omega.{arith}
 use lib.ListN.{length, take, drop, length-append}
 use lib.Seq.{take-append-seam, drop-append-seam}
 use Rattle.run.specs.Head.{Head, element, refused, none, Outcome, accepted, refusal, join, after, from, outcome}
-use Rattle.run.specs.Grammar.{Run, done, more, RunOf, Begins, Reads, Stopped}
+use Rattle.run.specs.Grammar.{Run, done, more, RunOf, Reads, Stopped}
 
 -- joinings compose
 pub join-join : {A : Type 0} (es fs : List A) (k l : ℕ) (x : Outcome A) → join es k (join fs l x) ≡ join (es ++ fs) (k + l) x
@@ -27,6 +26,11 @@ from-drop head [] zero = refl
 from-drop head [] (suc k) = refl
 from-drop head (b ∷ s) zero = refl
 from-drop head (b ∷ s) (suc k) = from-drop head s k
+
+-- a run has as many pieces as elements
+pub run-length : {A : Type 0} {S : List ℕ → A → Type 0} {s : List ℕ} {ps : List (List ℕ)} {es : List A} → Run S s ps es → length ps ≡ length es
+run-length done = refl
+run-length (more sp r) = ap suc (run-length r)
 
 -- two runs joined are a run of both lists of elements
 pub run-append : {A : Type 0} {S : List ℕ → A → Type 0} {s t : List ℕ} {ps qs : List (List ℕ)} {es fs : List A} → Run S s ps es → Run S t qs fs → RunOf S (s ++ t) (es ++ fs)

@@ -19,7 +19,7 @@ use Rattle.element.proofs.Reader.{reads, refuses-exactly-by, begins-head}
 use Rattle.element.proofs.Writer.{canonical-given, canonical-some, octets-refused, read-held}
 use Rattle.text.specs.Outcomes.{Respells, respellHead, readIn, respellIn, afterReading, convertIn}
 use Rattle.text.specs.Answers.{same}
-use Rattle.text.specs.Table.{NotHeld, ReadingFault, ConvertingFault}
+use Rattle.text.specs.Table.{FirstNotHeld, ReadingFault, ConvertingFault}
 use Rattle.text.proofs.Heads.{respell-reads, held-proper}
 use Rattle.text.proofs.Tables.{Meets}
 
@@ -74,7 +74,7 @@ module _ (f g : Form) where
 
   -- a text that is read is refused, respelt, where an element is not held
   module _ (text : List ℕ) (es : List Element) (is-read : readIn f text ≡ accepted es) (r n p d : ℕ) where
-    left : (h : Stopped (Respells f g) (λ rest b. respellHead f g rest ≡ refused r b) text n p d) (x : Head Element) → headIn f (h .rest) ≡ x → spelt g x ≡ refused r (h .behind) → (10 ≡ r) × (0 ≡ h .behind) × NotHeld f g (h .rest)
+    left : (h : Stopped (Respells f g) (λ rest b. respellHead f g rest ≡ refused r b) text n p d) (x : Head Element) → headIn f (h .rest) ≡ x → spelt g x ≡ refused r (h .behind) → (10 ≡ r) × (0 ≡ h .behind) × FirstNotHeld f g (h .rest)
     left h (element e k) q z =
         let v = octets-refused g (spellElement g e) k r (h .behind) z in
         (v .0, v .1, record { first = e; size = k; begins = reads f .found (h .rest) e k q; not-held = not-spelt (nothing-spelt (spellElement g e) k r (h .behind) z) })
@@ -92,7 +92,7 @@ module _ (f g : Form) where
         let v = left h (headIn f (h .rest)) refl (h .here) in
         subst (λ (i : ℕ). ConvertingFault f g text i n p d) (v .0) (ConvertingFault.not-held (read-exactly f text es .0 is-read) (outcomes.stopped-by h (sym (v .1), v .2)))
 
-  first-refused : {rest : List ℕ} → NotHeld f g rest → respellHead f g rest ≡ refused 10 0
+  first-refused : {rest : List ℕ} → FirstNotHeld f g rest → respellHead f g rest ≡ refused 10 0
   unfolding respellHead
   first-refused h = ap (spelt g) (begins-head f (h .begins)) ∙ go (spellElement g (h .first)) refl
     where
@@ -123,16 +123,16 @@ module _ (f g : Form) where
 
 -- ---- conversions compose
 
--- the same octets, or the same refusal number at the same element
+-- the same octets, or both are refused with 10, at the same element
 abbrev pub Alike : Outcome (List ℕ) → Outcome (List ℕ) → Type 0
 Alike (accepted ss) y = y ≡ accepted ss
 Alike (refusal r n p d) (accepted ss) = ⊥
-Alike (refusal r n p d) (refusal r′ n′ p′ d′) = (r ≡ r′) × (n ≡ n′)
+Alike (refusal r n p d) (refusal r′ n′ p′ d′) = (r ≡ 10) × (r′ ≡ 10) × (n ≡ n′)
 
 alike-join : (o : List ℕ) (k k′ : ℕ) (x y : Outcome (List ℕ)) → Alike x y → Alike (join (o ∷ []) k x) (join (o ∷ []) k′ y)
 alike-join o k k′ (accepted ss) y a = ap (join (o ∷ []) k′) a
 alike-join o k k′ (refusal r n p d) (accepted ss) a = absurd a
-alike-join o k k′ (refusal r n p d) (refusal r′ n′ p′ d′) a = (a .0, ap (λ (i : ℕ). 1 + i) (a .1))
+alike-join o k k′ (refusal r n p d) (refusal r′ n′ p′ d′) a = (a .0, a .1, ap (λ (i : ℕ). 1 + i) (a .2))
 
 -- an element at the head of a text, respelt or not held
 module _ (f h : Form) {p : List ℕ} {e : Element} (sp : Spells f p e) (t : List ℕ) where
@@ -150,7 +150,7 @@ module _ (f h : Form) {p : List ℕ} {e : Element} (sp : Spells f p e) (t : List
 module _ (f g h : Form) where
   -- two texts of the same elements are respelt alike
   alike-more : {p q : List ℕ} {e : Element} → Spells f p e → Spells g q e → (t u : List ℕ) → Alike (respellIn f h t) (respellIn g h u) → (x : List ℕ) → spellElement h e ≡ x → Alike (respellIn f h (p ++ t)) (respellIn g h (q ++ u))
-  alike-more sp sq t u a [] z = rw (head-none f h sp t z, head-none g h sq u z) (refl, refl)
+  alike-more sp sq t u a [] z = rw (head-none f h sp t z, head-none g h sq u z) (refl, refl, refl)
   alike-more {p} {q} sp sq t u a (b ∷ s) z =
       rw (head-some f h sp t b s z, head-some g h sq u b s z) (alike-join (b ∷ s) (length p) (length q) (respellIn f h t) (respellIn g h u) a)
 

@@ -6,6 +6,7 @@ mod Rooms
 mod Edges
 mod Tables
 mod Converting
+mod Measures
 mod Lone
 pub mod Readings
 pub mod Demands

@@ -1,10 +1,10 @@
 -- A lone read answers exactly what document 01's table and order say.
 -- Assumes nothing.
-use Prim.Native.Nat.{ℕ, _+_, _-_, _≤_, _<_}
+use Prim.Native.Nat.{ℕ, _≤_}
 use mathlib.Core.Path.{_≡_, refl, sym, ap, _∙_, subst}
 use mathlib.Core.Logic.{_↔_}
 use mathlib.Core.Bool.{Bool, true, false}
-use mathlib.Core.List.{List, []}
+use mathlib.Core.List.{List}
 use native.Mathlib.Omega.{arith}
 use lib.ListN.{length, drop, length-drop, drop-of-length-le}
 use lib.Dec.{leb}
@@ -17,11 +17,12 @@ use Rattle.alphabet.specs.declared.FormFound.the-variants.{Is, Nothing}
 use Rattle.alphabet.specs.Forms.{formOf}
 use Rattle.element.specs.declared.Element.{Element}
 use Rattle.element.specs.declared.Step.{Step}
-use Rattle.element.specs.declared.Step.the-variants.{Refused as No}
+use Rattle.element.specs.declared.Step.the-variants.{Refused}
 use Rattle.element.specs.Reading.{headIn, stepOf, stepAt}
 use Rattle.element.proofs.Reader.{reads, refuses-exactly-by, begins-head}
 use Rattle.text.specs.Answers.{limit, inForm, within-limit, loneStep}
 use Rattle.text.specs.Table.{LoneTable}
+use Rattle.text.proofs.Tables.{none-of-three}
 use Rattle.text.proofs.Edges.{no-form, a-form, over, fitting}
 
 module _ (form : ℕ) (text : List ℕ) (at : ℕ) where
@@ -30,14 +31,14 @@ module _ (form : ℕ) (text : List ℕ) (at : ℕ) where
   by-head f q l (refused r d) h = LoneTable.refused q l (refuses-exactly-by f (drop at text) r d .0 h)
   by-head f q l none h = LoneTable.none-left q l (omega (arith, length-drop at text, ap length (reads f .goes (drop at text) h)))
 
-  by-limit : (f : Form) → formOf form ≡ Is f → (t : Bool) → leb (length text) limit ≡ t → LoneTable form text at (pick t (stepAt f text at) (No 12 0 0))
+  by-limit : (f : Form) → formOf form ≡ Is f → (t : Bool) → leb (length text) limit ≡ t → LoneTable form text at (pick t (stepAt f text at) (Refused 12 0 0))
   unfolding stepAt
   by-limit f q true e = by-head f q (leb-true _ _ e) (headIn f (drop at text)) refl
   by-limit f q false e = LoneTable.over-limit q (leb-false _ _ e)
 
-  by-form : (y : FormFound) → formOf form ≡ y → LoneTable form text at (inForm y (No 11 0 0) (λ f. within-limit text (No 12 0 0) (stepAt f text at)))
+  by-form : (y : FormFound) → formOf form ≡ y → LoneTable form text at (inForm y (Refused 11 0 0) (λ f. within-limit text (Refused 12 0 0) (stepAt f text at)))
   by-form (Is f) q = by-limit f q (leb (length text) limit) refl
-  by-form Nothing q = LoneTable.no-form q
+  by-form Nothing q = LoneTable.no-form (none-of-three form .0 q)
 
   inside : {f : Form} → formOf form ≡ Is f → length text ≤ limit → stepAt f text at ≡ loneStep form text at
   unfolding loneStep
@@ -45,7 +46,7 @@ module _ (form : ℕ) (text : List ℕ) (at : ℕ) where
 
   of-row : {s : Step} → LoneTable form text at s → loneStep form text at ≡ s
   unfolding loneStep stepAt
-  of-row (LoneTable.no-form q) = sym (no-form _ _ _ q)
+  of-row (LoneTable.no-form n) = sym (no-form _ _ _ (none-of-three form .1 n))
   of-row (LoneTable.over-limit q l) = sym (a-form _ _ _ _ _ q (over text _ _ l))
   of-row (LoneTable.none-left {f} q l p) =
       sym (inside q l) ∙ ap (λ (u : List ℕ). stepOf at (headIn f u)) (drop-of-length-le text p) ∙ ap (stepOf at) (reads f .ends)

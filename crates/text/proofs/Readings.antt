@@ -32,14 +32,14 @@ pub data Added : Type 0 where
   in-form : ℕ → List ℕ → Added
   refused-by : ℕ → ℕ → Added
 
--- a buffer of three entries, of which the first are these
+-- a buffer of three entries, of which the first are these, and the others stand as before
 abbrev pub three : List ℕ → List ℕ
-three [] = 0 ∷ 0 ∷ 0 ∷ []
-three (a ∷ []) = a ∷ 0 ∷ 0 ∷ []
-three (a ∷ b ∷ []) = a ∷ b ∷ 0 ∷ []
+three [] = 7 ∷ 7 ∷ 7 ∷ []
+three (a ∷ []) = a ∷ 7 ∷ 7 ∷ []
+three (a ∷ b ∷ []) = a ∷ b ∷ 7 ∷ []
 three (a ∷ b ∷ c ∷ more) = a ∷ b ∷ c ∷ []
 
--- no text of the table has more than one element and is accepted
+-- no accepted text of the table has more than one element
 abbrev pub elements : List ℕ → ℕ
 elements [] = 0
 elements (w ∷ ws) = 1

@@ -1,7 +1,7 @@
 -- An answer is given exactly by document 01's table and order, over any kind of input; and its number tells the row.
 -- Assumes nothing.
 use Prim.Native.Nat.{ℕ, _≤_, _<_}
-use mathlib.Core.Path.{_≡_, refl, sym, ap, _∙_, subst, subst₂}
+use mathlib.Core.Path.{_≡_, refl, sym, ap, _∙_, subst₂}
 use mathlib.Core.Logic.{_↔_}
 use mathlib.Core.Bool.{Bool, true, false}
 use mathlib.Core.List.{List}
@@ -16,10 +16,22 @@ use Rattle.run.specs.Answers.{answer, bare, given, answerOf, writtenOf, over}
 use Rattle.alphabet.specs.declared.Form.{Form}
 use Rattle.alphabet.specs.declared.FormFound.{FormFound}
 use Rattle.alphabet.specs.declared.FormFound.the-variants.{Is, Nothing}
-use Rattle.alphabet.specs.Forms.{formOf}
+use Rattle.alphabet.specs.Forms.{formOf, formNumber}
+use Rattle.alphabet.proofs.Numbers.{form-number}
 use Rattle.text.specs.Answers.{limit, inForm, within-limit}
-use Rattle.text.specs.Table.{Answered, Formed, Tells}
+use Rattle.text.specs.Table.{NoForm, Answered, Formed, Tells}
 use Rattle.text.proofs.Edges.{no-form, a-form, over as past, fitting}
+
+-- no form has the number exactly where it is none of 1, 2 and 3
+pub none-of-three : (form : ℕ) → (formOf form ≡ Nothing) ↔ NoForm form
+none-of-three form = (forth, back (formOf form) refl)
+  where
+    forth : formOf form ≡ Nothing → NoForm form
+    forth q i = let z = form-number form .1 i in let w : _≡_ {A = ℕ} 0 11 = sym z ∙ ap formNumber q in omega arith
+
+    back : (y : FormFound) → formOf form ≡ y → NoForm form → formOf form ≡ Nothing
+    back (Is f) q n = absurd (n (form-number form .0 (ap formNumber q)))
+    back Nothing q n = q
 
 -- an outcome is accepted exactly by Runs, and refused exactly by Fault
 pub record Meets {A : Type 0} (Runs : List A → Type 0) (Fault : ℕ → ℕ → ℕ → ℕ → Type 0) (x : Outcome A) : Type 0 where
@@ -74,15 +86,16 @@ module _ (form : ℕ) (buffer : List ℕ) (Inside : Form → Answer → List ℕ
   in-its-form f q = inside f _ _ .0 (a-form _ _ _ _ _ q refl, a-form _ _ _ _ _ q refl)
 
   -- 11 exactly where the number is no form's
-  pub no-form-exactly : ((f : Form) → formOf form ≡ Is f → k f .number ≡ 11 → ⊥) → (inForm (formOf form) (bare 11) k .number ≡ 11) ↔ (formOf form ≡ Nothing)
-  no-form-exactly never = (forth (formOf form) refl, λ q. ap (λ (a : Answer). a .number) (sym (no-form _ _ _ q)))
+  pub no-form-exactly : ((f : Form) → formOf form ≡ Is f → k f .number ≡ 11 → ⊥) → (inForm (formOf form) (bare 11) k .number ≡ 11) ↔ NoForm form
+  no-form-exactly never =
+      (λ e. none-of-three form .0 (forth (formOf form) refl e), λ n. ap (λ (a : Answer). a .number) (sym (no-form _ _ _ (none-of-three form .1 n))))
     where
       forth : (y : FormFound) → formOf form ≡ y → inForm y (bare 11) k .number ≡ 11 → y ≡ Nothing
       forth (Is f) q e = absurd (never f q e)
       forth Nothing q e = refl
 
   of-formed : {a : Answer} {after : List ℕ} → Formed form buffer Inside a after → (inForm (formOf form) (bare 11) k ≡ a) × (inForm (formOf form) buffer l ≡ after)
-  of-formed (Formed.no-form q) = (sym (no-form _ _ _ q), sym (no-form _ _ _ q))
+  of-formed (Formed.no-form n) = let q = none-of-three form .1 n in (sym (no-form _ _ _ q), sym (no-form _ _ _ q))
   of-formed (Formed.of-form {f} {a} {after} q h) =
       let e = inside f a after .1 h in (sym (a-form _ _ _ _ _ q refl) ∙ e .0, sym (a-form _ _ _ _ _ q refl) ∙ e .1)
 
@@ -91,7 +104,7 @@ module _ (form : ℕ) (buffer : List ℕ) (Inside : Form → Answer → List ℕ
     where
       forth : (y : FormFound) → formOf form ≡ y → (inForm y (bare 11) k ≡ a) × (inForm y buffer l ≡ after) → Formed form buffer Inside a after
       forth (Is f) q e = Formed.of-form q (inside f a after .0 e)
-      forth Nothing q e = subst₂ (Formed form buffer Inside) (e .0) (e .1) (Formed.no-form q)
+      forth Nothing q e = subst₂ (Formed form buffer Inside) (e .0) (e .1) (Formed.no-form (none-of-three form .0 q))
 
 -- ---- the number tells the row
 
@@ -100,14 +113,15 @@ abbrev pub Numbered : (ℕ → ℕ → ℕ → ℕ → Type 0) → Type 0
 Numbered Fault = (r n p d : ℕ) → Fault r n p d → (0 < r) × (r < 11) × (r ≡ 9 → ⊥)
 
 module _ {A : Type 0} {gives : A → List ℕ} {Runs : List A → Type 0} {Fault : ℕ → ℕ → ℕ → ℕ → Type 0} {input buffer : List ℕ} (numbered : Numbered Fault) where
-  pub tells : {a : Answer} {after : List ℕ} → Answered gives Runs Fault input buffer a after → Tells gives Runs Fault input buffer a
+  pub tells : {a : Answer} {after : List ℕ} → Answered gives Runs Fault input buffer a after → Tells gives Runs Fault input buffer a after
   tells (Answered.over-limit h) =
       record {
         not-11 = λ e. omega arith;
-        is-12 = λ e. h;
+        is-12 = λ e. (h, refl);
         is-9 = λ e. absurd (omega arith);
         is-0 = λ e. absurd (omega arith);
         is-fault = λ a b c. absurd (omega arith);
+        kept = λ n. refl;
       }
   tells (Answered.fault {r} {n} {p} {d} h k) =
       let z = numbered r n p d k in
@@ -116,32 +130,29 @@ module _ {A : Type 0} {gives : A → List ℕ} {Runs : List A → Type 0} {Fault
         is-12 = λ e. absurd (omega (arith, z .1));
         is-9 = λ e. absurd (z .2 e);
         is-0 = λ e. absurd (omega (arith, z .0));
-        is-fault = λ a b c. (d, k, refl);
+        is-fault = λ a b c. (d, h, k, refl);
+        kept = λ n. refl;
       }
   tells (Answered.short-room {es} h r l) =
       record {
         not-11 = λ e. omega arith;
         is-12 = λ e. absurd (omega arith);
-        is-9 = λ e. (es, r, l, refl);
+        is-9 = λ e. (es, h, r, l, refl);
         is-0 = λ e. absurd (omega arith);
         is-fault = λ a b c. absurd (c refl);
+        kept = λ n. refl;
       }
   tells (Answered.accepted {es} h r l) =
       record {
         not-11 = λ e. omega arith;
         is-12 = λ e. absurd (omega arith);
         is-9 = λ e. absurd (omega arith);
-        is-0 = λ e. (es, r, l);
+        is-0 = λ e. (es, h, r, l, refl, refl);
         is-fault = λ a b c. absurd (omega arith);
+        kept = λ n. absurd (n refl);
       }
 
 -- a refusal leaves the buffer as it stood
 pub kept-in-form : {form : ℕ} {buffer : List ℕ} {Inside : Form → Answer → List ℕ → Type 0} {a : Answer} {after : List ℕ} → ((f : Form) (b : Answer) (l : List ℕ) → Inside f b l → (b .number ≡ 0 → ⊥) → l ≡ buffer) → Formed form buffer Inside a after → (a .number ≡ 0 → ⊥) → after ≡ buffer
 kept-in-form inside (Formed.no-form q) n = refl
 kept-in-form inside (Formed.of-form {f} {a} {after} q h) n = inside f a after h n
-
-pub kept : {A : Type 0} {gives : A → List ℕ} {Runs : List A → Type 0} {Fault : ℕ → ℕ → ℕ → ℕ → Type 0} {input buffer : List ℕ} {a : Answer} {after : List ℕ} → Answered gives Runs Fault input buffer a after → (a .number ≡ 0 → ⊥) → after ≡ buffer
-kept (Answered.over-limit h) n = refl
-kept (Answered.fault h k) n = refl
-kept (Answered.short-room h r l) n = refl
-kept (Answered.accepted h r l) n = absurd (n refl)

@@ -13,14 +13,14 @@ use Rattle.alphabet.specs.declared.FormFound.{FormFound}
 use Rattle.alphabet.specs.declared.FormFound.the-variants.{Is, Nothing}
 use Rattle.alphabet.specs.Forms.{formOf}
 use Rattle.element.specs.declared.Step.{Step}
-use Rattle.element.specs.declared.Step.the-variants.{Refused as Stopped}
+use Rattle.element.specs.declared.Step.the-variants.{Refused}
 use Rattle.element.specs.Words.{wordsOf}
 use Rattle.element.specs.Reading.{stepAt, stepAnswer}
 use Rattle.text.specs.Outcomes.{readIn, writeIn, convertIn}
 
 -- 12: "input over 1,048,576 entries"
 abbrev pub limit : ℕ
-limit = 0x100000
+limit = 1048576
 
 -- by a form's number: x where it is none
 abbrev pub inForm : {A : Type 0} → FormFound → A → (Form → A) → A
@@ -80,7 +80,7 @@ convertText source target text out =
 
 unfoldable pub loneStep : ℕ → List ℕ → ℕ → Step
 loneStep form text at =
-    inForm (formOf form) (Stopped 11 0 0) (λ f. within-limit text (Stopped 12 0 0) (stepAt f text at))
+    inForm (formOf form) (Refused 11 0 0) (λ f. within-limit text (Refused 12 0 0) (stepAt f text at))
 
 -- ---- parts of the code
 

@@ -31,7 +31,7 @@ respellHead f g text = spelt g (headIn f text)
 abbrev pub respellIn : Form → Form → List ℕ → Outcome (List ℕ)
 respellIn f g text = outcome (respellHead f g) text
 
--- an outcome that counts only where the first is accepted
+-- the second outcome where the first is accepted, else the refusal of the first
 abbrev pub afterReading : {A B : Type 0} → Outcome A → Outcome B → Outcome B
 afterReading (accepted es) x = x
 afterReading (refusal r n p d) x = refusal r n p d

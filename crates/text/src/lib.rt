@@ -1,4 +1,4 @@
-// A whole text: read, written, converted; one element of it.
+// A whole text: measured, read, written, converted; one element of it.
 use alphabet::Form;
 use alphabet::FormFound;
 use element::Element;
@@ -13,7 +13,7 @@ ghost use Rattle.element.specs.Reading.{stepAt};
 ghost use Rattle.text.specs.Outcomes.{readIn, writeIn, respellIn, convertIn};
 ghost use Rattle.text.specs.Answers.{limit, same, measured, roomFor, refusedAs, measureAnswer, readAnswer, readWords, writeAnswer, writeText, convertAnswer, convertText, loneStep};
 
-// Reads the element at a place, straight through where it is a plain octet.
+// Reads the element at a place. A plain octet, which is itself the character, goes before any table is looked at.
 fn step_at(form: Form, text: &[u8], at: usize) -> Step
     ensures { λ r. ⌜ r ≡ stepAt form (now (text .entry)) at ⌝ }
 {
@@ -293,7 +293,7 @@ pub fn measure(form: u32, text: &[u8]) -> Answer
     let FormFound::Is(f) = found else {
         return bare_refusal(11);
     };
-    if 0x100000 < text.len() {
+    if 1048576 < text.len() {
         return bare_refusal(12);
     }
     measure_read(f, text)
@@ -307,7 +307,7 @@ pub fn read(form: u32, text: &[u8], words: &mut [u32]) -> Answer
     let FormFound::Is(f) = found else {
         return bare_refusal(11);
     };
-    if 0x100000 < text.len() {
+    if 1048576 < text.len() {
         return bare_refusal(12);
     }
     read_in(f, text, words)
@@ -321,7 +321,7 @@ pub fn write(form: u32, words: &[u32], text: &mut [u8]) -> Answer
     let FormFound::Is(f) = found else {
         return bare_refusal(11);
     };
-    if 0x100000 < words.len() {
+    if 1048576 < words.len() {
         return bare_refusal(12);
     }
     write_in(f, words, text)
@@ -339,7 +339,7 @@ pub fn convert(source: u32, target: u32, text: &[u8], out: &mut [u8]) -> Answer
     let FormFound::Is(g) = to else {
         return bare_refusal(11);
     };
-    if 0x100000 < text.len() {
+    if 1048576 < text.len() {
         return bare_refusal(12);
     }
     convert_in(f, g, text, out)
@@ -357,7 +357,7 @@ pub fn read_element(form: u32, text: &[u8], at: usize) -> Step
             count: 0,
         };
     };
-    if 0x100000 < text.len() {
+    if 1048576 < text.len() {
         return Step::Refused {
             number: 12,
             place: 0,

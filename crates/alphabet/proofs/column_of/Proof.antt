@@ -1,7 +1,7 @@
 use native.Mathlib.Omega.{arith}
 use mathlib.Core.Path.{refl}
 use mathlib.Core.List.{List, [], _∷_}
-use Prim.Native.Nat.{ℕ, _+_, _-_}
+use Prim.Native.Nat.{ℕ, _-_}
 use Rattle.run.proofs.Range.{at-keys, within, without}
 use Rattle.alphabet.specs.Squares.{columnOf}
 use borrow.Author.Needs.{needs}

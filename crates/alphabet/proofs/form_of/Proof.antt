@@ -3,7 +3,7 @@ use mathlib.Core.List.{[], _∷_}
 use borrow.Author.Tests.{ne-eqb}
 use Rattle.run.proofs.Range.{at-keys}
 use Rattle.alphabet.specs.declared.Form.the-variants.{Eight, Seven, Basic}
-use Rattle.alphabet.specs.declared.FormFound.the-variants.{Is, Nothing}
+use Rattle.alphabet.specs.declared.FormFound.the-variants.{Is}
 use Rattle.alphabet.specs.Forms.{formOf}
 use Rattle.alphabet.proofs.form_of.Statement.{statement}
 use Rattle.alphabet.proofs.form_of.Tie as tie

@@ -1,6 +1,5 @@
 use borrow.Author.Tests.{le-leb, lt-leb}
 use Rattle.alphabet.specs.Squares.{pairAt}
-use native.Mathlib.Omega.{arith}
 use borrow.Author.Needs.{needs}
 use Rattle.alphabet.proofs.pair_at.Statement.{statement}
 use Rattle.alphabet.proofs.pair_at.Tie as tie

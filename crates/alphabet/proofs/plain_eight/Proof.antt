@@ -1,10 +1,10 @@
 use native.Mathlib.Omega.{arith}
 use mathlib.Core.Path.{refl}
 use mathlib.Core.List.{List, [], _∷_}
-use Prim.Native.Nat.{ℕ, _+_, _-_}
+use Prim.Native.Nat.{ℕ}
 use Rattle.run.proofs.Range.{at-keys, within, without}
 use mathlib.Core.Bool.{true, false}
-use Rattle.alphabet.specs.declared.Form.the-variants.{Eight, Seven, Basic}
+use Rattle.alphabet.specs.declared.Form.the-variants.{Eight}
 use Rattle.alphabet.specs.Sorts.{sortIn, plainIn}
 use Rattle.alphabet.proofs.plain_eight.Statement.{statement}
 use Rattle.alphabet.proofs.plain_eight.Tie as tie

@@ -1,10 +1,8 @@
 use native.Mathlib.Omega.{arith}
 use mathlib.Core.Path.{refl}
-use mathlib.Core.List.{List, [], _∷_}
-use Prim.Native.Nat.{ℕ, _+_, _-_}
 use Rattle.run.proofs.Range.{within}
 use mathlib.Core.Bool.{true, false}
-use Rattle.alphabet.specs.declared.Form.the-variants.{Eight, Seven, Basic}
+use Rattle.alphabet.specs.declared.Form.the-variants.{Seven}
 use Rattle.alphabet.specs.Sorts.{sortIn, plainIn}
 use Rattle.alphabet.proofs.plain_seven.Statement.{statement}
 use Rattle.alphabet.proofs.plain_seven.Tie as tie

@@ -1,7 +1,6 @@
 use native.Mathlib.Omega.{arith}
 use mathlib.Core.Path.{refl}
-use mathlib.Core.List.{List, [], _∷_}
-use Prim.Native.Nat.{ℕ, _+_, _-_}
+use Prim.Native.Nat.{_-_}
 use Rattle.run.proofs.Range.{within}
 use Rattle.alphabet.specs.Squares.{rowOf}
 use borrow.Author.Needs.{needs}

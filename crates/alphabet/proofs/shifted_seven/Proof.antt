@@ -1,11 +1,10 @@
 use native.Mathlib.Omega.{arith}
 use mathlib.Core.Path.{refl, _∙_}
-use mathlib.Core.List.{List, [], _∷_}
-use Prim.Native.Nat.{ℕ, _+_, _-_}
+use Prim.Native.Nat.{_+_}
 use Rattle.run.proofs.Range.{within}
-use Rattle.alphabet.specs.declared.Form.the-variants.{Eight, Seven, Basic}
-use Rattle.alphabet.specs.declared.Sort.the-variants.{Graphic, Mark, Underline, Shift, Control, SequenceStart, Refused}
-use Rattle.alphabet.specs.Sorts.{sortIn, shiftedIn, plainIn, spacingOf}
+use Rattle.alphabet.specs.declared.Form.the-variants.{Seven}
+use Rattle.alphabet.specs.declared.Sort.the-variants.{Mark, Refused}
+use Rattle.alphabet.specs.Sorts.{shiftedIn, spacingOf}
 use borrow.Author.Needs.{needs}
 use Rattle.alphabet.proofs.shifted_seven.Statement.{statement}
 use Rattle.alphabet.proofs.shifted_seven.Tie as tie

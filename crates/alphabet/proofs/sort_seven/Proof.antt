@@ -1,11 +1,11 @@
 use native.Mathlib.Omega.{arith}
 use mathlib.Core.Path.{refl}
 use mathlib.Core.List.{List, [], _∷_}
-use Prim.Native.Nat.{ℕ, _+_, _-_}
+use Prim.Native.Nat.{ℕ}
 use Rattle.run.proofs.Range.{at-keys, within, without}
-use Rattle.alphabet.specs.declared.Form.the-variants.{Eight, Seven, Basic}
-use Rattle.alphabet.specs.declared.Sort.the-variants.{Graphic, Mark, Underline, Shift, Control, SequenceStart, Refused}
-use Rattle.alphabet.specs.Sorts.{sortIn, shiftedIn, plainIn, spacingOf}
+use Rattle.alphabet.specs.declared.Form.the-variants.{Seven}
+use Rattle.alphabet.specs.declared.Sort.the-variants.{Graphic, Shift, Control, Refused}
+use Rattle.alphabet.specs.Sorts.{sortIn}
 use Rattle.alphabet.proofs.sort_seven.Statement.{statement}
 use Rattle.alphabet.proofs.sort_seven.Tie as tie
 

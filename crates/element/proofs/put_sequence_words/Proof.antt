@@ -3,7 +3,7 @@ use native.Mathlib.Omega.{arith}
 use borrow.Author.Tests.{not-true, not-false}
 use lib.ListN.{length}
 use Rattle.element.specs.Spelling.{isStart}
-use Rattle.element.proofs.Parsed.{no-start, not-spelt, is-spelt, head-enough, middle-small, sized, putted}
+use Rattle.element.proofs.Parsed.{no-start, not-spelt, is-spelt, head-enough, middle-small, putted}
 use Rattle.run.proofs.Puts.{put-none, put-as}
 use borrow.Author.Needs.{needs}
 use Rattle.element.proofs.put_sequence_words.Statement.{statement}

@@ -1,4 +1,4 @@
-use mathlib.Core.Path.{sym, ap, _∙_}
+use mathlib.Core.Path.{sym, _∙_}
 use Rattle.element.proofs.Steps.{shifted-end, shifted-here, follower-second}
 use borrow.Author.Needs.{needs}
 use Rattle.element.proofs.shift_step.Statement.{statement}

@@ -1,5 +1,4 @@
 use mathlib.Core.Path.{sym, ap, _∙_}
-use native.Mathlib.Omega.{arith}
 use lib.ListN.{length}
 use Rattle.element.proofs.Parsed.{part-count, held-one, held-sequence}
 use borrow.Author.Needs.{needs}

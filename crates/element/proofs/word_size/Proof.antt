@@ -1,10 +1,9 @@
 use mathlib.Core.Path.{sym, ap, _∙_}
-use native.Mathlib.Omega.{arith}
 use lib.ListN.{length}
 use Rattle.alphabet.specs.declared.Spelling.{Spelling}
 use Rattle.alphabet.specs.Spelling.{octetsOf}
 use Rattle.element.specs.Spelling.{isUnderline, afterCC}
-use Rattle.element.proofs.Spelt.{spell-character, spell-underlined, spell-no-underline, spell-control, spell-no-control, spell-no-word, control-octet}
+use Rattle.element.proofs.Spelt.{spell-character, spell-underlined, spell-no-underline, spell-control, spell-no-control, spell-no-word}
 use borrow.Author.Needs.{needs}
 use Rattle.element.proofs.word_size.Statement.{statement}
 use Rattle.element.proofs.word_size.Tie as tie

@@ -3,7 +3,6 @@ use mathlib.Core.Path.{sym, _∙_}
 use native.Mathlib.Omega.{arith}
 use borrow.Author.Needs.{needs}
 use lib.ListN.{length}
-use Rattle.element.specs.Spelling.{spellElement}
 use Rattle.text.specs.Answers.{same}
 use Rattle.text.proofs.Passed.{Measured, measure-start, small, measure-onward, measure-turn, measured-all}
 use Rattle.text.proofs.Heads.{spelt-short}
