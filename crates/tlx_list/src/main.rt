@@ -1,0 +1,4 @@
+// Lists the TLX case on standard input.
+fn main() {
+    listing::list_from(0);
+}
