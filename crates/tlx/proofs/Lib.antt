@@ -8,3 +8,4 @@ mod Rooms
 mod OnePage
 pub mod Checked
 pub mod Laid
+pub mod Cases
