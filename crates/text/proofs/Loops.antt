@@ -8,7 +8,6 @@ use mathlib.Core.List.{List, [], _∷_}
 use native.Mathlib.Omega.{arith}
 use lib.ListN.{length, getD, drop}
 use lib.Seq.{drop-cons}
-use lib.Dec.{lit≤}
 use borrow.Author.Tests.{eqb-true, le-leb}
 use types.Run.{OneOf}
 use denote.Enum.Declared.{tagOf}
@@ -18,16 +17,16 @@ use Rattle.alphabet.specs.declared.Form.{Form}
 use Rattle.alphabet.specs.declared.Sort.{Sort}
 use Rattle.alphabet.specs.declared.Sort.the-variants.{Graphic, Mark, Underline, Shift, Control, SequenceStart, Refused}
 use Rattle.alphabet.specs.Sorts.{sortIn, itself, plainIn}
-use Rattle.sequence.specs.Grammar.{RefusesSequence}
 use Rattle.element.proofs.Step.{the-type}
 use Rattle.element.specs.declared.Element.{Element}
 use Rattle.element.specs.declared.Element.the-variants.{One}
 use Rattle.element.specs.declared.Step.{Step}
 use Rattle.element.specs.declared.Step.the-variants.{Element as Read, Refused as Stopped, End}
 use Rattle.element.specs.Words.{wordsOf}
-use Rattle.element.specs.Grammar.{Spells, Refuses}
+use Rattle.element.specs.Grammar.{Spells}
 use Rattle.element.specs.Reading.{headSort, headIn, stepOf, stepAt}
 use Rattle.element.proofs.Reader.{reads, refuses-exactly-by}
+use Rattle.element.proofs.Numbers.{reading-numbers}
 use Rattle.run.specs.Put.{Put}
 use Rattle.run.proofs.Puts.{put-as}
 use Rattle.element.specs.Spelling.{fitting}
@@ -74,28 +73,7 @@ not-read (Read e₀ k₀) e k o q = ⊎-elim (λ z. omega arith) (λ z. omega ar
 not-read (Stopped r p d) e k o q = let w : _≡_ {A = ℕ} 0 1 = cc in omega arith
 not-read End e k o q = let w : _≡_ {A = ℕ} 0 1 = cc in omega arith
 
--- ---- the numbers of reading are 1 to 8
-
-sequence-numbers : {s : List ℕ} {r d : ℕ} → RefusesSequence s r d → r ≤ 8
-sequence-numbers (RefusesSequence.ends h) = lit≤ tt
-sequence-numbers (RefusesSequence.not-allowed b t h n) = lit≤ tt
-sequence-numbers (RefusesSequence.passes b t h n) = lit≤ tt
-sequence-numbers (RefusesSequence.fortieth b t h l n) = lit≤ tt
-
-pub reading-numbers : {f : Form} {s : List ℕ} {r d : ℕ} → Refuses f s r d → r ≤ 8
-reading-numbers (Refuses.begins-nothing e) = lit≤ tt
-reading-numbers (Refuses.codes-neither s e) = lit≤ tt
-reading-numbers (Refuses.escape e) = lit≤ tt
-reading-numbers (Refuses.not-listed l t w e n) = lit≤ tt
-reading-numbers (Refuses.may-not s n) = lit≤ tt
-reading-numbers (Refuses.ends-after-mark w) = lit≤ tt
-reading-numbers (Refuses.ends-after-shift s) = lit≤ tt
-reading-numbers (Refuses.ends-after-underline s) = lit≤ tt
-reading-numbers (Refuses.high e) = lit≤ tt
-reading-numbers (Refuses.high-after-shift s e) = lit≤ tt
-reading-numbers (Refuses.high-follower l t w e) = lit≤ tt
-reading-numbers (Refuses.high-after-underline s e) = lit≤ tt
-reading-numbers (Refuses.in-sequence s k) = sequence-numbers k
+-- ---- the count of a reading refusal
 
 pub count-is-place : (r d : ℕ) → r ≤ 8 → d ≡ countOf r d
 count-is-place r d h = sym (rw (le-leb r 8 h))

@@ -25,7 +25,8 @@ use Rattle.text.specs.Outcomes.{Respells, respellHead, writeIn, respellI
 use Rattle.text.specs.Answers.{same, measured, roomFor, refusedAs}
 use Rattle.text.proofs.Passed.{Measured, measured-stop, measure-not-none, Filled, fill-never, fill-not-none}
 use Rattle.text.proofs.Heads.{respell-reads}
-use Rattle.text.proofs.Loops.{Here, not-read, reading-numbers, count-is-place}
+use Rattle.element.proofs.Numbers.{reading-numbers}
+use Rattle.text.proofs.Loops.{Here, not-read, count-is-place}
 
 -- ---- a head of elements, spelt in a form
 

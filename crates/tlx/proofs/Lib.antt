@@ -9,3 +9,4 @@ mod OnePage
 pub mod Checked
 pub mod Laid
 pub mod Cases
+pub mod Written

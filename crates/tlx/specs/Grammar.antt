@@ -8,7 +8,7 @@ use Rattle.run.specs.Grammar.{RunOf}
 use Rattle.alphabet.specs.declared.Form.{Form}
 use Rattle.element.specs.declared.Element.{Element}
 use Rattle.element.specs.Grammar.{Spells}
-use Rattle.tlx.specs.Layout.{mark, versionOf, formOctet, pageCount, version-1, lengthsIn, sizeOf, caseOf}
+use Rattle.tlx.specs.Layout.{mark, versionOf, formOctet, pageCount, version-1, lengthsIn, total, sizeOf, caseOf}
 
 -- every entry is an octet
 abbrev pub Octets : List ℕ → Type 0
@@ -70,3 +70,18 @@ pub record Sound (case : List ℕ) : Type 0 where
 pub data AllSpelt (f : Form) : List (List ℕ) → List Element → Type 0 where
   none : AllSpelt f [] []
   more : {page : List ℕ} {pages : List (List ℕ)} {es fs : List Element} → RunOf (Spells f) page es → AllSpelt f pages fs → AllSpelt f (page ∷ pages) (es ++ fs)
+
+-- ---- what a case is written from
+
+-- 15 is not given: at most 256 pages, no length over 65,535, and the lengths add up to the page octets
+pub record Parts (lengths octets : List ℕ) : Type 0 where
+  pub few : length lengths ≤ 0x100
+  pub short : (n : ℕ) → List·Memᴰ n lengths → n ≤ 0xFFFF
+  pub sum : total lengths ≡ length octets
+
+-- which number a writing has: 11, then 15, then 9
+pub data Written (form : ℕ) (lengths octets : List ℕ) (room : ℕ) : ℕ → Type 0 where
+  no-form : (IsForm form → ⊥) → Written form lengths octets room 11
+  no-parts : IsForm form → (Parts lengths octets → ⊥) → Written form lengths octets room 15
+  no-room : IsForm form → Parts lengths octets → room < sizeOf version-1 (length lengths) lengths → Written form lengths octets room 9
+  done : IsForm form → Parts lengths octets → sizeOf version-1 (length lengths) lengths ≤ room → Written form lengths octets room 0

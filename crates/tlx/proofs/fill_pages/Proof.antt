@@ -37,13 +37,13 @@ add-end : tie.Need-add-end Inv-loop μ-loop
 add-end c = omega (arith, c .before .before .loop .inv .1 .read .small, c .before .before .loop .inv .0 .few, c .before .before .loop .inv .1 .read .inside, c .number-at .ensures .1)
 
 sub-read : tie.Need-sub-read Inv-loop μ-loop
-sub-read c = search needs
+sub-read c = omega (arith, page-inside _ (c .before .before .before .before .before .args .case .now) _ _ _ _ (c .before .before .loop .inv .1 .read) (c .before .loop-test .taken) _ (c .number-at .ensures))
 
 part-read-start : tie.Need-part-read-start Inv-loop μ-loop
-part-read-start c = search needs
+part-read-start c = omega (arith, page-inside _ (c .before .before .before .before .before .args .case .now) _ _ _ _ (c .before .before .loop .inv .1 .read) (c .before .loop-test .taken) _ (c .number-at .ensures))
 
 part-read-end : tie.Need-part-read-end Inv-loop μ-loop
-part-read-end c = page-inside _ (c .before .before .before .before .before .args .case .now) _ _ _ _ (c .before .before .loop .inv .1 .read) (c .before .loop-test .taken) _ (c .number-at .ensures)
+part-read-end c = omega (arith, page-inside _ (c .before .before .before .before .before .args .case .now) _ _ _ _ (c .before .before .loop .inv .1 .read) (c .before .loop-test .taken) _ (c .number-at .ensures))
 
 mul-read : tie.Need-mul-read Inv-loop μ-loop
 mul-read c = omega (arith, fill-place _ (c .before .before .before .before .before .before .args .case .now) _ _ _ (c .before .before .before .before .before .before .args .words .now) _ _ (roomy _ _ _ (c .before .before .before .before .before .before .args .words .now) (c .before .before .before .before .before .before .pre .0) (c .before .before .before .loop .inv .0) (c .before .before .before .before .before .before .pre .1)) (c .before .before .before .loop .inv .1))

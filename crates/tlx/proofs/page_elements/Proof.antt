@@ -46,13 +46,13 @@ add-end : tie.Need-add-end
 add-end c = omega (arith, right-header _ _ _ (sym (c .before .before .before .before .before .before .header-of .ensures) ∙ c .before .before .before .before .header2 .given .1) .few, c .before .total-of .ensures .1, c .number-at .ensures .1)
 
 sub-measure : tie.Need-sub-measure
-sub-measure c = search needs
+sub-measure c = omega (arith, page-inside (c .before .before .before .before .before .before .before .before .args .case .now) _ _ _ (sym (c .before .before .before .before .before .before .header-of .ensures) ∙ c .before .before .before .before .header2 .given .1) (c .before .before .if1 .left) _ _ (c .before .total-of .ensures) (c .number-at .ensures))
 
 part-measure-start : tie.Need-part-measure-start
-part-measure-start c = search needs
+part-measure-start c = omega (arith, page-inside (c .before .before .before .before .before .before .before .before .args .case .now) _ _ _ (sym (c .before .before .before .before .before .before .header-of .ensures) ∙ c .before .before .before .before .header2 .given .1) (c .before .before .if1 .left) _ _ (c .before .total-of .ensures) (c .number-at .ensures))
 
 part-measure-end : tie.Need-part-measure-end
-part-measure-end c = page-inside (c .before .before .before .before .before .before .before .before .args .case .now) _ _ _ (sym (c .before .before .before .before .before .before .header-of .ensures) ∙ c .before .before .before .before .header2 .given .1) (c .before .before .if1 .left) _ _ (c .before .total-of .ensures) (c .number-at .ensures)
+part-measure-end c = omega (arith, page-inside (c .before .before .before .before .before .before .before .before .args .case .now) _ _ _ (sym (c .before .before .before .before .before .before .header-of .ensures) ∙ c .before .before .before .before .header2 .given .1) (c .before .before .if1 .left) _ _ (c .before .total-of .ensures) (c .number-at .ensures))
 
 measure-requires : tie.Need-measure-requires
 measure-requires c κs = search needs
