@@ -1,20 +1,17 @@
 -- What is read of a case and written as one, in document 01's words. `CaseOf`, `AllSpelt`, `Turned` and `text`'s `Refused-text` say when; the
 -- outcomes are those that the contracts of `read_case`, `page_elements` and `write_case` cite.
 -- Assumes nothing.
-use Prim.Native.Nat.{ℕ, zero, suc, _+_, _≤_, _<_}
+use Prim.Native.Nat.{ℕ, suc, _+_, _≤_, _<_}
 use mathlib.Core.Path.{_≡_, refl, sym, ap, ap₂, subst, _∙_}
 use mathlib.Core.Logic.{_↔_}
-use mathlib.Core.Bool.{true, false}
-use mathlib.Core.List.{List, [], _∷_, _++_, List·Memᴰ}
+use mathlib.Core.List.{List, [], _∷_, _++_}
 use native.Mathlib.Nat.{add-zero}
 use native.Mathlib.Omega.{arith}
-use lib.Dec.{leb}
-use lib.ListN.{length, getD, length-append}
-use borrow.Author.Tests.{le-leb, lt-leb, lt-ltb}
+use lib.ListN.{length, getD}
+use borrow.Author.Tests.{le-leb, lt-leb, lt-ltb, le-ltb}
 use Rattle.run.specs.Head.{Outcome, accepted, refusal}
 use Rattle.run.specs.Grammar.{RunOf}
-use Rattle.run.specs.declared.Answer.{Answer}
-use Rattle.run.specs.Answers.{answer, bare, countOf, given, over, answerOf, writtenOf}
+use Rattle.run.specs.Answers.{answer, bare, countOf, given, over}
 use Rattle.run.proofs.Answers as answers
 use Rattle.alphabet.specs.declared.Form.{Form}
 use Rattle.alphabet.specs.declared.FormFound.the-variants.{Is}
@@ -23,23 +20,18 @@ use Rattle.element.specs.declared.Element.{Element}
 use Rattle.element.specs.Words.{wordsOf}
 use Rattle.element.specs.Grammar.{Spells}
 use Rattle.text.specs.Outcomes.{readIn}
-use Rattle.text.specs.Answers.{measured, measureAnswer}
+use Rattle.text.specs.Answers.{measureAnswer}
 use Rattle.text.proofs.Demands as text
-use Rattle.tlx.specs.declared.CaseAnswer.{CaseAnswer}
 use Rattle.tlx.specs.declared.Header.{Header}
 use Rattle.tlx.specs.declared.Header.the-variants.{Refused, Pages}
-use Rattle.tlx.specs.declared.Page.the-variants.{Is as IsPage}
-use Rattle.tlx.specs.Layout.{total, cut, caseOf, caseWith}
-use Rattle.tlx.specs.Check.{headerOf, lengthsOf, pagesOf}
+use Rattle.tlx.specs.declared.Page.the-variants.{Is as IsPage, NoPage}
+use Rattle.tlx.specs.Check.{headerOf}
 use Rattle.tlx.specs.Grammar.{Octets, CaseOf, Turned, AllSpelt, none, more}
-use Rattle.tlx.specs.Reading.{CaseOutcome, all, fault, joinPages, afterPage, readPages, readCase, turned, beside, outcomeOf, pageOf, caseAnswer, readCaseAnswer, readCaseWords, pageAnswer}
-use Rattle.tlx.specs.Writing.{fitting, writeCaseAnswer, writeCaseOctets}
-use Rattle.tlx.proofs.Headers.{right-header}
-use Rattle.tlx.proofs.Pages.{join-none, join-join, page-measured}
-use Rattle.tlx.proofs.Parts.{fits}
+use Rattle.tlx.specs.Reading.{CaseOutcome, all, fault, joinPages, afterPage, readPages, readCase, beside, readCaseAnswer, readCaseWords, pageAnswer}
+use Rattle.tlx.proofs.Pages.{join-none, join-join}
 use Rattle.tlx.proofs.Checked.{is-found, turned-exactly}
-use Rattle.tlx.proofs.Laid.{laid-exactly, case-header, case-pages, header-says, lengths-are, pages-cut, parts-case}
-use Rattle.tlx.proofs.Rooms.{case-turned, turned-answers}
+use Rattle.tlx.proofs.Laid.{laid-exactly, case-header, case-pages}
+use Rattle.tlx.proofs.Rooms.{case-turned}
 
 -- the pages are refused at one of them: those before it are runs of elements, and it is refused as a text of its octets alone
 pub record Faulty (f : Form) (pages : List (List ℕ)) (g r n p d : ℕ) : Type 0 where
@@ -138,3 +130,126 @@ module _ (f : Form) where
   -- They are refused exactly when one of them is, which is named, and the pages before it are accepted.
   pub pages-refused : (pages : List (List ℕ)) (g r n p d : ℕ) → (readPages f pages ≡ fault g r n p d) ↔ Faulty f pages g r n p d
   pages-refused pages g r n p d = (went-ill (went pages) g r n p d, faulty-fault)
+
+-- ---- a whole case
+
+-- the octets are the case of pages that are runs of elements: es, one page after another
+pub record AcceptedCase (case : List ℕ) (es : List Element) : Type 0 where
+  pub form : ℕ
+  pub the-form : Form
+  pub is-form : formOf form ≡ Is the-form
+  pub pages : List (List ℕ)
+  pub laid : CaseOf case form pages
+  pub spelt : AllSpelt the-form pages es
+
+-- how a case is refused: by itself, or the case of pages is refused at one of them
+pub data RefusedCase (case : List ℕ) : ℕ → ℕ → ℕ → ℕ → ℕ → Type 0 where
+  of-case : {r : ℕ} → Turned case r → RefusedCase case 0 r 0 0 0
+  of-page : {form : ℕ} {f : Form} {pages : List (List ℕ)} {g r n p d : ℕ} → formOf form ≡ Is f → CaseOf case form pages → Faulty f pages g r n p d → RefusedCase case g r n p d
+
+-- "Every page is read by itself": the case of pages comes to what its pages come to, each read from its octets alone
+pub read-laid : (case : List ℕ) (form : ℕ) (f : Form) (pages : List (List ℕ)) → formOf form ≡ Is f → CaseOf case form pages → readCase case ≡ readPages f pages
+unfolding readCase
+read-laid case form f pages q c = simp (case-header case form pages c, q) (ap (readPages f) (case-pages case form pages c))
+
+module _ (case : List ℕ) (octets : Octets case) where
+  accepted-by : (es : List Element) → readCase case ≡ all es → (h : Header) → headerOf case ≡ h → AcceptedCase case es
+  accepted-by es q (Refused r) e = let t = case-turned case r e in let z : _≡_ {A = ℕ} 0 1 = cc in absurd (omega arith)
+  accepted-by es q (Pages form n) e =
+      let l = laid-exactly case octets form n .0 e in
+      let f = is-found form (l .2 .is-form) in
+      record {
+        form = form;
+        the-form = f .0;
+        is-form = f .1;
+        pages = l .0;
+        laid = l .2;
+        spelt = pages-accepted (f .0) (l .0) es .0 (sym (read-laid case form (f .0) (l .0) (f .1) (l .2)) ∙ q);
+      }
+
+  -- A case is accepted exactly when it has the layout with every page accepted, and its elements are its pages' joined.
+  pub case-accepted : (es : List Element) → (readCase case ≡ all es) ↔ AcceptedCase case es
+  case-accepted es =
+      (λ q. accepted-by es q (headerOf case) refl, λ a. read-laid case (a .form) (a .the-form) (a .pages) (a .is-form) (a .laid) ∙ pages-accepted (a .the-form) (a .pages) es .1 (a .spelt))
+
+  refused-by : (g r n p d : ℕ) → readCase case ≡ fault g r n p d → (h : Header) → headerOf case ≡ h → RefusedCase case g r n p d
+  refused-by g r n p d q (Refused k) e =
+      let t = case-turned case k e in
+      let eg : 0 ≡ g = cc in
+      let er : k ≡ r = cc in
+      let en : 0 ≡ n = cc in
+      let ep : 0 ≡ p = cc in
+      let ed : 0 ≡ d = cc in
+      subst (λ (x : ℕ). RefusedCase case g r n p x) ed
+      (subst (λ (x : ℕ). RefusedCase case g r n x 0) ep
+      (subst (λ (x : ℕ). RefusedCase case g r x 0 0) en
+      (subst (λ (x : ℕ). RefusedCase case g x 0 0 0) er (subst (λ (x : ℕ). RefusedCase case x k 0 0 0) eg (of-case (turned-exactly case k .0 e))))))
+  refused-by g r n p d q (Pages form k) e =
+      let l = laid-exactly case octets form k .0 e in
+      let f = is-found form (l .2 .is-form) in
+      of-page (f .1) (l .2) (pages-refused (f .0) (l .0) g r n p d .0 (sym (read-laid case form (f .0) (l .0) (f .1) (l .2)) ∙ q))
+
+  refused-read : {g r n p d : ℕ} → RefusedCase case g r n p d → readCase case ≡ fault g r n p d
+  refused-read (of-case {r} t) = case-turned case r (turned-exactly case r .1 t)
+  refused-read (of-page {form} {f} {pages} {g} {r} {n} {p} {d} q c i) = read-laid case form f pages q c ∙ pages-refused f pages g r n p d .1 i
+
+  -- A case is refused exactly by 01's table: 13, 14, 11, 15 by itself, with page 0 and no place; else at the first page that is refused, which
+  -- is named, element and places counted from that page's start.
+  pub case-refused : (g r n p d : ℕ) → (readCase case ≡ fault g r n p d) ↔ RefusedCase case g r n p d
+  case-refused g r n p d = (λ q. refused-by g r n p d q (headerOf case) refl, refused-read)
+
+  -- ---- the same, of what `read_case` answers and of the words it leaves
+
+  module _ (words : List ℕ) where
+    -- "An accepted case answers 0, all elements, its length, and the count of its pages' words, written one page after another", with room
+    pub read-accepted : (es : List Element) → AcceptedCase case es → length (given wordsOf es) ≤ length words
+        → (readCaseAnswer case (length words) ≡ beside 0 (answer 0 (length es) (length case) (length (given wordsOf es)))) × (readCaseWords case words ≡ over words (given wordsOf es))
+    unfolding readCaseAnswer readCaseWords
+    read-accepted es a h =
+        let q = case-accepted es .1 a in
+        let t = le-leb (length (given wordsOf es)) (length words) h in
+        (simp (q, t), simp (q, t))
+
+    -- 9: "lent room is short", with the room needed, after all else
+    pub read-short : (es : List Element) → AcceptedCase case es → length words < length (given wordsOf es)
+        → (readCaseAnswer case (length words) ≡ beside 0 (answer 9 0 0 (length (given wordsOf es)))) × (readCaseWords case words ≡ words)
+    unfolding readCaseAnswer readCaseWords
+    read-short es a h =
+        let q = case-accepted es .1 a in
+        let t = lt-leb (length (given wordsOf es)) (length words) h in
+        (simp (q, t), simp (q, t))
+
+    -- a refused case: the page, and the number, element, place and count of the table; the words as they were
+    pub read-refused : (g r n p d : ℕ) → RefusedCase case g r n p d
+        → (readCaseAnswer case (length words) ≡ beside g (answer r n p (countOf r d))) × (readCaseWords case words ≡ words)
+    unfolding readCaseAnswer readCaseWords
+    read-refused g r n p d i = let q = case-refused g r n p d .1 i in (simp q, simp q)
+
+-- ---- the words of a case are its pages' words, joined
+
+-- the words of a text, where it is accepted
+abbrev pub pageWords : Outcome Element → List ℕ
+pageWords (accepted es) = given wordsOf es
+pageWords (refusal r n p d) = []
+
+pub words-joined : (f : Form) {pages : List (List ℕ)} {es : List Element} → AllSpelt f pages es → given wordsOf es ≡ given (λ (page : List ℕ). pageWords (readIn f page)) pages
+unfolding given
+words-joined f none = refl
+words-joined f (more {page} {pages} {es} {fs} r s) =
+    answers.given-append wordsOf es fs ∙ ap₂ _++_ (sym (ap pageWords (text.accepted-exactly f page es .1 r))) (words-joined f s)
+
+-- ---- one page
+
+-- Each page's answer is that of its octets, read as a text.
+pub page-answers : (case : List ℕ) (form : ℕ) (pages : List (List ℕ)) → CaseOf case form pages → (k : ℕ) → k < length pages → pageAnswer case k ≡ IsPage (measureAnswer form (getD pages k []))
+unfolding pageAnswer
+page-answers case form pages c k h =
+    simp (case-header case form pages c, lt-ltb k (length pages) h) (ap (λ (l : List (List ℕ)). IsPage (measureAnswer form (getD l k []))) (case-pages case form pages c))
+
+pub no-page-answers : (case : List ℕ) (form : ℕ) (pages : List (List ℕ)) → CaseOf case form pages → (k : ℕ) → length pages ≤ k → pageAnswer case k ≡ NoPage
+unfolding pageAnswer
+no-page-answers case form pages c k h = simp (case-header case form pages c, le-ltb k (length pages) h)
+
+pub turned-page-answers : (case : List ℕ) (r k : ℕ) → Turned case r → pageAnswer case k ≡ IsPage (bare r)
+unfolding pageAnswer
+turned-page-answers case r k t = simp (turned-exactly case r .1 t)

@@ -10,3 +10,4 @@ pub mod Checked
 pub mod Laid
 pub mod Cases
 pub mod Written
+pub mod OneAnswer

@@ -1,22 +1,20 @@
 -- What `write_case` answers, exactly when; and what a written case is read as.
 -- Assumes nothing.
-use Prim.Native.Nat.{ℕ, zero, suc, _+_, _*_, _≤_, _<_}
+use Prim.Native.Nat.{ℕ, _+_, _*_, _≤_}
 use mathlib.Core.Path.{_≡_, refl, sym, ap, subst, _∙_}
 use mathlib.Core.Logic.{_↔_}
 use mathlib.Core.Bool.{Bool, true, false}
-use mathlib.Core.List.{List, [], _∷_, _++_, List·Memᴰ, List·Memᴰ·head, List·Memᴰ·tail, List·Memᴰ·not-nil}
+use mathlib.Core.List.{List, [], _∷_, List·Memᴰ, List·Memᴰ·head, List·Memᴰ·tail, List·Memᴰ·not-nil}
 use native.Mathlib.Omega.{arith}
-use lib.Dec.{eqb, leb}
-use lib.ListN.{length, take, drop, length-take}
-use lib.Seq.{take-append-seam}
-use borrow.Author.Tests.{eqb-true, eq-eqb, leb-true, leb-false, le-leb, lt-leb}
+use lib.Dec.{leb}
+use lib.ListN.{length, drop, length-take}
+use borrow.Author.Tests.{eq-eqb, leb-true, leb-false, le-leb, lt-leb}
 use Rattle.run.specs.Choice.{pick}
-use Rattle.run.specs.declared.Answer.{Answer}
 use Rattle.run.specs.Answers.{answer, bare, over}
-use Rattle.alphabet.specs.declared.Form.{Form}
 use Rattle.alphabet.specs.declared.FormFound.{FormFound}
 use Rattle.alphabet.specs.declared.FormFound.the-variants.{Is, Nothing}
 use Rattle.alphabet.specs.Forms.{formOf}
+use Rattle.text.specs.Answers.{inForm}
 use Rattle.tlx.specs.declared.Header.the-variants.{Pages}
 use Rattle.tlx.specs.Layout.{total, cut, caseWith}
 use Rattle.tlx.specs.Check.{headerOf, lengthsOf, pagesOf}
@@ -99,3 +97,56 @@ module _ (form : ℕ) (lengths octets : List ℕ) (room : ℕ) where
       forth q =
           let w = by-form (formOf form) refl in
           subst (Written form lengths octets room) (sym (answered (w .1)) ∙ q) (w .1)
+
+-- ---- what is written
+
+cut-short : (ns s : List ℕ) → ((k : ℕ) → List·Memᴰ k ns → k ≤ 0xFFFF) → (page : List ℕ) → List·Memᴰ page (cut ns s) → length page ≤ 0xFFFF
+unfolding cut
+cut-short [] s h page m = absurd (List·Memᴰ·not-nil m)
+cut-short (n ∷ ns) s h page (List·Memᴰ·head p) = omega (arith, ap length p, length-take n s, h n (List·Memᴰ·head refl))
+cut-short (n ∷ ns) s h page (List·Memᴰ·tail m) = cut-short ns (drop n s) (λ k i. h k (List·Memᴰ·tail i)) page m
+
+module _ (form : ℕ) (lengths octets : List ℕ) (i : IsForm form) (p : Parts lengths octets) where
+  -- "The same case is written from its parts": it has the layout of the case of the pages that the lengths cut from the octets
+  pub written-laid : CaseOf (caseWith form lengths octets) form (cut lengths octets)
+  written-laid =
+      record {
+        is-form = i;
+        few = omega (arith, p .few, cut-count lengths octets);
+        short = cut-short lengths octets (p .short);
+        is = parts-case form lengths octets (p .sum);
+      }
+
+  -- and reads as its parts: header, table and pages, which are the page octets
+  pub written-header : headerOf (caseWith form lengths octets) ≡ Pages form (length lengths)
+  written-header = header-says form lengths octets (is-found form i .0) (is-found form i .1) (p .few) (p .sum)
+
+  pub written-lengths : lengthsOf (caseWith form lengths octets) ≡ lengths
+  written-lengths = lengths-are form lengths octets (is-found form i .0) (is-found form i .1) (p .few) (p .sum)
+
+  pub written-pages : pagesOf (caseWith form lengths octets) ≡ cut lengths octets
+  written-pages = pages-cut form lengths octets (is-found form i .0) (is-found form i .1) (p .few) (p .sum)
+
+  pub written-octets : joined (pagesOf (caseWith form lengths octets)) ≡ octets
+  written-octets = ap joined written-pages ∙ joined-cut lengths octets (p .sum)
+
+  -- "an accepted writing has element 0, and its place is the number of page octets"; what is written is that case, and the rest stays
+  pub written-answers : (case : List ℕ) → length (caseWith form lengths octets) ≤ length case
+      → (writeCaseAnswer form lengths octets (length case) ≡ answer 0 0 (length octets) (length (caseWith form lengths octets))) × (writeCaseOctets form lengths octets case ≡ over case (caseWith form lengths octets))
+  unfolding writeCaseAnswer writeCaseOctets
+  written-answers case h =
+      let f = is-found form i .1 in
+      let o = of-parts lengths octets p in
+      let l = le-leb (length (caseWith form lengths octets)) (length case) h in
+      (simp (f, o, l), simp (f, o, l))
+
+-- a refused writing leaves the lent octets as they were
+pub refused-keeps : (form : ℕ) (lengths octets case : List ℕ) → (writeCaseAnswer form lengths octets (length case) .number ≡ 0 → ⊥) → writeCaseOctets form lengths octets case ≡ case
+unfolding writeCaseAnswer writeCaseOctets
+refused-keeps form lengths octets case = by (formOf form) (fitting lengths (length octets)) (leb (length (caseWith form lengths octets)) (length case))
+  where
+    by : (y : FormFound) (t u : Bool) → (inForm y (bare 11) (λ f. pick t (pick u (answer 0 0 (length octets) (length (caseWith form lengths octets))) (answer 9 0 0 (length (caseWith form lengths octets)))) (bare 15)) .number ≡ 0 → ⊥) → inForm y case (λ f. pick t (pick u (over case (caseWith form lengths octets)) case) case) ≡ case
+    by (Is f) true true n = absurd (n refl)
+    by (Is f) true false n = refl
+    by (Is f) false u n = refl
+    by Nothing t u n = refl
