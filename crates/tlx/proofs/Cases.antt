@@ -8,7 +8,11 @@ use mathlib.Core.List.{List, [], _∷_, _++_}
 use native.Mathlib.Nat.{add-zero}
 use native.Mathlib.Omega.{arith}
 use lib.ListN.{length, getD}
-use borrow.Author.Tests.{le-leb, lt-leb, lt-ltb, le-ltb}
+use borrow.Author.Tests.{le-leb, lt-leb, lt-ltb, le-ltb, leb-true, leb-false}
+use mathlib.Core.Bool.{Bool, true, false}
+use lib.Dec.{leb, lit<}
+use Rattle.element.proofs.Numbers.{reading-numbers}
+use Rattle.tlx.specs.declared.CaseAnswer.{CaseAnswer}
 use Rattle.run.specs.Head.{Outcome, accepted, refusal}
 use Rattle.run.specs.Grammar.{RunOf}
 use Rattle.run.specs.Answers.{answer, bare, countOf, given, over}
@@ -27,7 +31,7 @@ use Rattle.tlx.specs.declared.Header.the-variants.{Refused, Pages}
 use Rattle.tlx.specs.declared.Page.the-variants.{Is as IsPage, NoPage}
 use Rattle.tlx.specs.Check.{headerOf}
 use Rattle.tlx.specs.Grammar.{Octets, CaseOf, Turned, AllSpelt, none, more}
-use Rattle.tlx.specs.Reading.{CaseOutcome, all, fault, joinPages, afterPage, readPages, readCase, beside, readCaseAnswer, readCaseWords, pageAnswer}
+use Rattle.tlx.specs.Reading.{CaseOutcome, all, fault, joinPages, afterPage, readPages, readCase, beside, readCaseAnswer, readCaseWords, pageAnswer, outcomeOf}
 use Rattle.tlx.proofs.Pages.{join-none, join-join}
 use Rattle.tlx.proofs.Checked.{is-found, turned-exactly}
 use Rattle.tlx.proofs.Laid.{laid-exactly, case-header, case-pages}
@@ -224,6 +228,62 @@ module _ (case : List ℕ) (octets : Octets case) where
         → (readCaseAnswer case (length words) ≡ beside g (answer r n p (countOf r d))) × (readCaseWords case words ≡ words)
     unfolding readCaseAnswer readCaseWords
     read-refused g r n p d i = let q = case-refused g r n p d .1 i in (simp q, simp q)
+
+-- ---- 9, exactly
+
+turned-high : {case : List ℕ} {r : ℕ} → Turned case r → 9 < r
+turned-high (Turned.under-8 h) = lit< tt
+turned-high (Turned.wrong-mark h n) = lit< tt
+turned-high (Turned.other-version w n) = lit< tt
+turned-high (Turned.no-form w n) = lit< tt
+turned-high (Turned.over-256 w h) = lit< tt
+turned-high (Turned.wrong-size w h n) = lit< tt
+
+refused-not-9 : {case : List ℕ} {g r n p d : ℕ} → RefusedCase case g r n p d → r ≡ 9 → ⊥
+refused-not-9 (of-case t) e = omega (arith, turned-high t)
+refused-not-9 (of-page q c i) e = omega (arith, reading-numbers (i .refused .here))
+
+module _ (case : List ℕ) (octets : Octets case) (words : List ℕ) where
+  -- the room is short of what the case needs
+  abbrev pub Short : Type 0
+  Short = (es : List Element) × AcceptedCase case es × (length words < length (given wordsOf es))
+
+  short-by : (es : List Element) → AcceptedCase case es → (t : Bool) → leb (length (given wordsOf es)) (length words) ≡ t → readCaseAnswer case (length words) .number ≡ 9 → Short
+  short-by es a true e q =
+      let r = read-accepted case octets words es a (leb-true (length (given wordsOf es)) (length words) e) .0 in
+      let z : _≡_ {A = ℕ} 0 9 = sym (ap (λ (y : CaseAnswer). y .number) r) ∙ q in
+      absurd (omega arith)
+  short-by es a false e q = (es, a, leb-false (length (given wordsOf es)) (length words) e)
+
+  forth-by : (x : CaseOutcome) → readCase case ≡ x → readCaseAnswer case (length words) .number ≡ 9 → Short
+  forth-by (all es) e q =
+      short-by es (case-accepted case octets es .0 e) (leb (length (given wordsOf es)) (length words)) refl q
+  forth-by (fault g r n p d) e q =
+      let i = case-refused case octets g r n p d .0 e in
+      let a = read-refused case octets words g r n p d i .0 in
+      absurd (refused-not-9 i (sym (ap (λ (y : CaseAnswer). y .number) a) ∙ q))
+
+  -- 9 is given exactly when the case is accepted and the lent room is short of its words
+  pub short-exactly : (readCaseAnswer case (length words) .number ≡ 9) ↔ Short
+  short-exactly =
+      (λ q. forth-by (readCase case) refl q, λ s. ap (λ (y : CaseAnswer). y .number) (read-short case octets words (s .0) (s .1) (s .2) .0))
+
+-- ---- of any case: what is not written
+
+-- "A refusal writes nothing to any buffer."
+pub refusal-keeps : (case words : List ℕ) → (readCaseAnswer case (length words) .number ≡ 0 → ⊥) → readCaseWords case words ≡ words
+unfolding readCaseAnswer readCaseWords
+refusal-keeps case words h = answers.refusal-keeps wordsOf (length case) words (outcomeOf (readCase case)) h
+
+-- The buffer keeps its length.
+pub words-length : (case words : List ℕ) → length (readCaseWords case words) ≡ length words
+unfolding readCaseWords
+words-length case words = answers.written-length wordsOf (length case) words (outcomeOf (readCase case))
+
+-- "Entries past the count stay."
+pub past-count : (case words : List ℕ) (k d : ℕ) → readCaseAnswer case (length words) .count ≤ k → getD (readCaseWords case words) k d ≡ getD words k d
+unfolding readCaseAnswer readCaseWords
+past-count case words k d h = answers.past-count wordsOf (length case) words (outcomeOf (readCase case)) k d h
 
 -- ---- the words of a case are its pages' words, joined
 
