@@ -9,5 +9,6 @@ mod OnePage
 pub mod Checked
 pub mod Laid
 pub mod Cases
+pub mod EachPage
 pub mod Written
 pub mod OneAnswer

@@ -1,35 +1,22 @@
 -- What writing a case answers, and what it leaves.
 -- Assumes nothing.
 use Prim.Native.Nat.{ℕ, _+_, _*_, _≤_, _<_}
-use mathlib.Core.Path.{_≡_, refl, sym, ap, _∙_}
-use mathlib.Core.Bool.{Bool, true, false}
+use mathlib.Core.Path.{_≡_, sym, ap, _∙_}
+use mathlib.Core.Bool.{true, false}
 use mathlib.Core.List.{List}
 use native.Mathlib.Omega.{arith}
-use lib.Dec.{eqb}
 use lib.ListN.{length, length-append}
-use borrow.Author.Tests.{eqb-true, le-leb, lt-leb}
-use Rattle.run.specs.Choice.{pick}
+use borrow.Author.Tests.{le-leb, lt-leb}
 use Rattle.run.specs.declared.Answer.{Answer}
 use Rattle.run.specs.Answers.{answer, bare, given}
 use Rattle.run.specs.Put.{Put}
 use Rattle.run.proofs.Puts.{put-both, put-over}
 use Rattle.alphabet.specs.declared.Form.{Form}
-use Rattle.alphabet.specs.declared.Form.the-variants.{Eight, Seven, Basic}
 use Rattle.alphabet.specs.declared.FormFound.the-variants.{Is, Nothing}
 use Rattle.alphabet.specs.Forms.{formOf}
 use Rattle.tlx.specs.Layout.{header, big16, caseWith}
 use Rattle.tlx.specs.Writing.{fitting, writeCaseAnswer, writeCaseOctets}
 use Rattle.tlx.proofs.Parts.{table-length}
-
--- a form's number is an octet
-pub form-small : (form : ℕ) (f : Form) → formOf form ≡ Is f → form ≤ 3
-form-small form f = by (eqb form 1) refl (eqb form 2) refl (eqb form 3) refl
-  where
-    by : (a : Bool) → eqb form 1 ≡ a → (b : Bool) → eqb form 2 ≡ b → (c : Bool) → eqb form 3 ≡ c → pick a (Is Eight) (pick b (Is Seven) (pick c (Is Basic) Nothing)) ≡ Is f → form ≤ 3
-    by true p b q c r e = omega (arith, eqb-true form 1 p)
-    by false p true q c r e = omega (arith, eqb-true form 2 q)
-    by false p false q true r e = omega (arith, eqb-true form 3 r)
-    by false p false q false r e = let z : _≡_ {A = ℕ} 0 1 = cc in absurd (omega arith)
 
 -- "Size is exactly 8 + 2 x pages + the lengths"
 pub case-length : (form : ℕ) (lengths octets : List ℕ) → length (caseWith form lengths octets) ≡ 8 + 2 * length lengths + length octets

@@ -1,0 +1,89 @@
+-- Reading a case and reading each of its pages agree; and so do cases of joined pages.
+-- Assumes nothing.
+use Prim.Native.Nat.{ℕ, zero, suc, _+_, _<_}
+use mathlib.Core.Path.{_≡_, refl, sym, ap, subst, _∙_}
+use mathlib.Core.List.{List, [], _∷_, _++_, List·Memᴰ, List·Memᴰ·head, List·Memᴰ·tail}
+use native.Mathlib.Nat.{le-of-suc-le-suc}
+use native.Mathlib.Omega.{arith}
+use lib.ListN.{length, getD, length-append, List·getD-append}
+use lib.Seq.{getD-at}
+use Rattle.run.specs.Head.{Outcome, accepted, refusal}
+use Rattle.run.specs.Grammar.{RunOf}
+use Rattle.run.specs.Answers.{answer, countOf, given}
+use Rattle.alphabet.specs.declared.Form.{Form}
+use Rattle.alphabet.specs.declared.FormFound.the-variants.{Is}
+use Rattle.alphabet.specs.Forms.{formOf}
+use Rattle.element.specs.declared.Element.{Element}
+use Rattle.element.specs.Words.{wordsOf}
+use Rattle.element.specs.Grammar.{Spells}
+use Rattle.text.specs.Outcomes.{readIn}
+use Rattle.text.specs.Answers.{measured}
+use Rattle.text.proofs.Demands as text
+use Rattle.tlx.specs.declared.Page.the-variants.{Is as IsPage}
+use Rattle.tlx.specs.Grammar.{CaseOf, AllSpelt, none, more}
+use Rattle.tlx.specs.Reading.{all, joinPages, readCase, pageAnswer}
+use Rattle.tlx.proofs.Pages.{page-measured}
+use Rattle.tlx.proofs.Cases.{Faulty, joined, pages-accepted, read-laid, page-answers}
+
+-- After a case that is accepted, the pages of another are read in one case with its own as in theirs: elements joined, or the page's number
+-- moved up.
+pub joined-cases : (form : ℕ) (f : Form) → formOf form ≡ Is f → (case next both : List ℕ) (pages others : List (List ℕ)) → CaseOf case form pages → CaseOf next form others → CaseOf both form (pages ++ others)
+    → (es : List Element) → readCase case ≡ all es → readCase both ≡ joinPages es (length pages) (readCase next)
+joined-cases form f q case next both pages others a b c es e =
+    let s = pages-accepted f pages es .0 (sym (read-laid case form f pages q a) ∙ e) in
+    read-laid both form f (pages ++ others) q c
+    ∙ joined f s others
+    ∙ ap (joinPages es (length pages)) (sym (read-laid next form f others q b))
+
+-- each of the pages is a run of elements
+spelt-at : {f : Form} {pages : List (List ℕ)} {es : List Element} → AllSpelt f pages es → (k : ℕ) → k < length pages → (fs : List Element) × RunOf (Spells f) (getD pages k []) fs
+spelt-at none k h = absurd (omega arith)
+spelt-at (more {es = es} r s) zero h = (es, r)
+spelt-at (more r s) (suc k) h = spelt-at s k (le-of-suc-le-suc h)
+
+member-at : (pages : List (List ℕ)) (k : ℕ) → k < length pages → List·Memᴰ (getD pages k []) pages
+member-at [] k h = absurd (omega arith)
+member-at (page ∷ pages) zero h = List·Memᴰ·head refl
+member-at (page ∷ pages) (suc k) h = List·Memᴰ·tail (member-at pages k (le-of-suc-le-suc h))
+
+module _ (case : List ℕ) (form : ℕ) (f : Form) (is-form : formOf form ≡ Is f) (pages : List (List ℕ)) (laid : CaseOf case form pages) where
+  -- a page of a case is within the limit, so it is answered by its reading alone
+  page-read : (k : ℕ) → k < length pages → pageAnswer case k ≡ IsPage (measured wordsOf (length (getD pages k [])) (readIn f (getD pages k [])))
+  page-read k h =
+      let s = laid .short (getD pages k []) (member-at pages k h) in
+      page-answers case form pages laid k h ∙ ap IsPage (page-measured form f (getD pages k []) is-form (omega (arith, s)))
+
+  -- a page that is a run of elements: 0, its elements, its length, its words
+  pub page-accepted : (k : ℕ) → k < length pages → (fs : List Element) → RunOf (Spells f) (getD pages k []) fs → pageAnswer case k ≡ IsPage (answer 0 (length fs) (length (getD pages k [])) (length (given wordsOf fs)))
+  page-accepted k h fs r =
+      page-read k h ∙ ap (λ (x : Outcome Element). IsPage (measured wordsOf (length (getD pages k [])) x)) (text.accepted-exactly f (getD pages k []) fs .1 r)
+
+  -- In an accepted case every page is accepted by itself.
+  pub each-accepted : (es : List Element) → AllSpelt f pages es → (k : ℕ) → k < length pages → (fs : List Element) × (pageAnswer case k ≡ IsPage (answer 0 (length fs) (length (getD pages k [])) (length (given wordsOf fs))))
+  each-accepted es s k h = let r = spelt-at s k h in (r .0, page-accepted k h (r .0) (r .1))
+
+  module _ (g r n p d : ℕ) (faulty : Faulty f pages g r n p d) where
+    inside : g < length pages
+    inside =
+        omega (arith, ap length (faulty .whole), length-append (faulty .before) (faulty .page ∷ faulty .behind), faulty .named)
+
+    the-page : getD pages g [] ≡ faulty .page
+    the-page =
+        ap (λ (l : List (List ℕ)). getD l g []) (faulty .whole)
+        ∙ getD-at (faulty .before) (faulty .page) (faulty .behind) [] g (sym (faulty .named))
+
+    -- A page with a fault is the page that is named: by itself it has the same refusal.
+    pub named-page : pageAnswer case g ≡ IsPage (answer r n p (countOf r d))
+    named-page =
+        page-read g inside
+        ∙ ap (λ (s : List ℕ). IsPage (measured wordsOf (length s) (readIn f s))) the-page
+        ∙ ap (λ (x : Outcome Element). IsPage (measured wordsOf (length (faulty .page)) x)) (text.refused-exactly f (faulty .page) r n p d .1 (faulty .refused))
+
+    -- The pages before it are accepted.
+    pub before-named : (k : ℕ) → k < g → (fs : List Element) × (pageAnswer case k ≡ IsPage (answer 0 (length fs) (length (getD pages k [])) (length (given wordsOf fs))))
+    before-named k h =
+        let l : k < length (faulty .before) = omega (arith, faulty .named) in
+        let s = spelt-at (faulty .spelt) k l in
+        let e : getD (faulty .before) k [] ≡ getD pages k [] =
+        sym (ap (λ (l : List (List ℕ)). getD l k []) (faulty .whole) ∙ List·getD-append (faulty .before) (faulty .page ∷ faulty .behind) [] k l) in
+        (s .0, page-accepted k (omega (arith, inside)) (s .0) (subst (λ (t : List ℕ). RunOf (Spells f) t (s .0)) e (s .1)))
