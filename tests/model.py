@@ -1,4 +1,4 @@
-"""The alphabets, the elements and the texts of document 01, from its text alone.
+"""The alphabets, the elements, the texts and the TLX case of document 01, from its text alone.
 
 A form is 1, 2 or 3, an octet is 0 to 255, a character is its Unicode code point. The lists below are the document's own
 sentences, kept as text and taken apart here, so that they can be held against the page. The 154 pairs stand nowhere in the
@@ -654,6 +654,113 @@ def convert_text(source: int, target: int, octets: Octets, room: Optional[int] =
     return given(spelling, len(pieces), len(octets), room)
 
 
+# The TLX case.
+
+# "Octets 54 4C 58, a big-endian 16-bit version, one form octet, a big-endian 16-bit page count, one big-endian 16-bit length a page,
+# then the pages."
+CASE_MARK = bytes.fromhex("54 4C 58")
+CASE_VERSION = 1
+CASE_HEADER = 8
+MOST_PAGES = 256
+MOST_LENGTH = 65_535
+
+
+class Case(NamedTuple):
+    """What a case's header and table say, and the octets of its pages."""
+
+    form: int
+    pages: tuple[bytes, ...]
+
+
+class CaseAnswer(NamedTuple):
+    """The four numbers, and "the page named beside the answer (0 in any other answer)"."""
+
+    number: int
+    element: int = 0
+    place: int = 0
+    count: int = 0
+    page: int = 0
+
+
+def big_endian(octets: Octets) -> int:
+    return int.from_bytes(bytes(octets), "big")
+
+
+def case_of(octets: Octets) -> Union[Case, int]:
+    """What the header and the table say; or the number of the refusal: "For a case: 13, 14, 11, 15".
+
+    13: "case under 8 octets, or wrong mark"; 14: "case version not 1"; 11: "form not 1 to 3"; 15: "over 256 pages, or size wrong",
+    which "is exactly 8 + 2 x pages + the lengths". A table that is cut off makes the size wrong too.
+    """
+    case = bytes(octets)
+    if len(case) < CASE_HEADER or case[:3] != CASE_MARK:
+        return 13
+    if big_endian(case[3:5]) != CASE_VERSION:
+        return 14
+    form = case[5]
+    if form not in FORMS:
+        return 11
+    pages = big_endian(case[6:8])
+    if pages > MOST_PAGES:
+        return 15
+    start = CASE_HEADER + 2 * pages
+    if len(case) < start:
+        return 15
+    lengths = [big_endian(case[at : at + 2]) for at in range(CASE_HEADER, start, 2)]
+    if len(case) != start + sum(lengths):
+        return 15
+    ends = [start + sum(lengths[: page + 1]) for page in range(pages)]
+    return Case(form, tuple(case[end - length : end] for end, length in zip(ends, lengths)))
+
+
+def read_case(octets: Octets, room: Optional[int] = None) -> tuple[CaseAnswer, list[int]]:
+    """The answer, and the words of its pages: 13, 14, 11, 15, the pages from the first, 9.
+
+    "Every page is read by itself from where it starts in the case", and "An accepted case answers 0, all elements, its length, and the
+    count of its pages' words, written one page after another."
+    """
+    case = case_of(octets)
+    if isinstance(case, int):
+        return CaseAnswer(case), []
+    elements = 0
+    words: list[int] = []
+    for page, text in enumerate(case.pages):
+        pieces, refusal = read_pieces(case.form, text)
+        if refusal:
+            return CaseAnswer(*refusal, page), []
+        elements += len(pieces)
+        words += [word for piece in pieces for word in piece.words]
+    answer, put = given(words, elements, len(octets), room)
+    return CaseAnswer(*answer), put
+
+
+def page_elements(octets: Octets, page: int) -> Optional[Answer]:
+    """The page's own answer, as with room enough; or the case's own refusal; or None where the case has no page of the number."""
+    case = case_of(octets)
+    if isinstance(case, int):
+        return Answer(case)
+    if page >= len(case.pages):
+        return None
+    answer, _ = read_text(case.form, case.pages[page])
+    return answer
+
+
+def write_case(form: int, lengths: Sequence[int], octets: Octets, room: Optional[int] = None) -> tuple[Answer, list[int]]:
+    """The answer, and the case: 11, 15, 9.
+
+    15: "if there are over 256 pages, a length is over 65,535 or the lengths don't add up to the page octets". "pages aren't read, so an
+    accepted writing has element 0, and its place is the number of page octets."
+    """
+    if form not in FORMS:
+        return Answer(11), []
+    if len(lengths) > MOST_PAGES or any(length > MOST_LENGTH for length in lengths) or sum(lengths) != len(octets):
+        return Answer(15), []
+    version, pages = CASE_VERSION.to_bytes(2, "big"), len(lengths).to_bytes(2, "big")
+    table = b"".join(length.to_bytes(2, "big") for length in lengths)
+    case = CASE_MARK + version + bytes([form]) + pages + table + bytes(octets)
+    return given(list(case), 0, len(octets), room)
+
+
 # "Sixteen readings to prove": form, octets, and the words or the refusal's number, element, place and count.
 READINGS: list[tuple[int, str, Union[list[int], Answer]]] = [
     (1, "", []),
@@ -716,9 +823,35 @@ def check_texts() -> None:
     assert convert_text(3, 1, [0x41, 0xCC, 0x41], 0) == (Answer(10, 1, 1, 0), [])
 
 
+# "Whole example: form 1, two pages".
+EXAMPLE = "54 4C 58 00 01 01 00 02 00 01 00 02 41 C2 65"
+
+
+def check_cases() -> None:
+    """The document's whole example, and the order of refusals of a case."""
+    example = bytes.fromhex(EXAMPLE)
+    assert read_case(example) == (CaseAnswer(0, 2, 15, 2), [0x41, 0xE9])
+    assert [page_elements(example, page) for page in range(3)] == [Answer(0, 1, 1, 1), Answer(0, 1, 2, 1), None]
+    assert write_case(1, [1, 2], example[12:]) == (Answer(0, 0, 3, 15), list(example))
+    assert read_case(example, 1) == (CaseAnswer(9, 0, 0, 2), [])
+    assert write_case(1, [1, 2], example[12:], 14) == (Answer(9, 0, 0, 15), [])
+    # "an element can't run over into the next page"
+    cut = bytes(write_case(1, [2, 1], [0x41, 0xC2, 0x65])[1])
+    assert read_case(cut, 0) == (CaseAnswer(4, 1, 1, 2, 0), [])
+    # Each header is wrong in all that the ones after it are wrong in.
+    for number, header in [(13, "54 4C 59 00 02 04 FF FF"), (14, "54 4C 58 00 02 04 FF FF"), (11, "54 4C 58 00 01 04 FF FF")]:
+        assert read_case(bytes.fromhex(header)) == (CaseAnswer(number), [])
+        assert page_elements(bytes.fromhex(header), 0) == Answer(number)
+    assert read_case(bytes.fromhex("54 4C 58 00 01 01 FF FF")) == (CaseAnswer(15), [])
+    assert read_case(CASE_MARK) == (CaseAnswer(13), [])
+    assert write_case(0, [2**16], [], 0) == (Answer(11), [])
+    assert write_case(3, [2**16], [], 0) == (Answer(15), [])
+
+
 check()
 check_readings()
+check_cases()
 
 if __name__ == "__main__":
     check_texts()
-    print("the sixteen readings hold, and so do the texts")
+    print("the sixteen readings hold, and so do the texts and the whole example of a case")
