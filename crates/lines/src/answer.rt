@@ -1,5 +1,24 @@
-// Answers as text. Each function puts something at a place of a lent text, where there is room, and answers the place after it.
+// Answers, and answers as text. A function that puts does so at a place of a lent text, where there is room, and answers the place
+// after it.
 use run::Answer;
+
+// The answer to a vector that the program has no room for.
+pub fn unasked() -> Answer {
+    Answer {
+        number: 99,
+        element: 0,
+        place: 0,
+        count: 0,
+    }
+}
+
+// How many entries are written: none by a refusal.
+pub fn written(answer: Answer) -> usize {
+    if answer.number == 0 {
+        return answer.count;
+    }
+    0
+}
 
 pub fn put(out: &mut [u8], at: usize, octet: u8) -> usize {
     if out.len() <= at {
@@ -56,7 +75,7 @@ pub fn put_place(out: &mut [u8], at: usize, place: usize) -> usize {
 }
 
 // In two decimal digits, or `**` where two do not hold it.
-fn put_number(out: &mut [u8], at: usize, number: usize) -> usize {
+pub fn put_number(out: &mut [u8], at: usize, number: usize) -> usize {
     if 100 <= number {
         let next = put(out, at, b'*');
         return put(out, next, b'*');
@@ -70,13 +89,18 @@ pub fn put_after_space(out: &mut [u8], at: usize, place: usize) -> usize {
     put_place(out, next, place)
 }
 
-// The four numbers, and a comma.
-pub fn put_answer(out: &mut [u8], answer: Answer) -> usize {
+// The four numbers.
+pub fn put_numbers(out: &mut [u8], answer: Answer) -> usize {
     let first = put_number(out, 0, answer.number);
     let second = put_after_space(out, first, answer.element);
     let third = put_after_space(out, second, answer.place);
-    let fourth = put_after_space(out, third, answer.count);
-    put(out, fourth, b',')
+    put_after_space(out, third, answer.count)
+}
+
+// The four numbers, and a comma.
+pub fn put_answer(out: &mut [u8], answer: Answer) -> usize {
+    let next = put_numbers(out, answer);
+    put(out, next, b',')
 }
 
 // A refusal of one element: its number, place and count.

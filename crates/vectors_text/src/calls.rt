@@ -5,6 +5,8 @@ use lines::answer::put;
 use lines::answer::put_after_space;
 use lines::answer::put_answer;
 use lines::answer::put_refusal;
+use lines::answer::unasked;
+use lines::answer::written;
 use lines::fields::octets_in;
 use lines::fields::words_in;
 use lines::room::fill_octets;
@@ -12,24 +14,6 @@ use lines::room::fill_words;
 use lines::room::put_octets;
 use lines::room::put_words;
 use run::Answer;
-
-// The answer to a vector that the program has no room for.
-fn unasked() -> Answer {
-    Answer {
-        number: 99,
-        element: 0,
-        place: 0,
-        count: 0,
-    }
-}
-
-// How many entries are written: none by a refusal.
-fn written(answer: Answer) -> usize {
-    if answer.number == 0 {
-        return answer.count;
-    }
-    0
-}
 
 fn read_into(form: u32, octets: &[u8], words: &mut [u32], room: usize) -> Answer {
     if words.len() < room {
