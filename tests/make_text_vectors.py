@@ -498,9 +498,10 @@ def words_text(words: Iterable[int]) -> str:
 
 
 def place_text(place: int) -> str:
-    """In two digits, or in four where two do not hold it."""
-    assert place < 0x10000
-    return f"{place:02X}" if place < 0x100 else f"{place:04X}"
+    """In two digits, or in four where two do not hold it, or in sixteen."""
+    if place < 0x100:
+        return f"{place:02X}"
+    return f"{place:04X}" if place < 0x10000 else f"{place:016X}"
 
 
 def answer_text(answer: model.Answer) -> str:

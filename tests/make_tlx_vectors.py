@@ -12,7 +12,8 @@ All of it comes from the model of document 01 (model.py), never from our own cod
 - The header: the case, and its form and how many pages, or `!13`, a refusal's number in decimal.
 - Writing: the form, the lengths, the page octets, the room, the four numbers of the answer, and the case that it puts.
 
-Everything else is in hex.
+Everything else is in hex. In the files of long cases a list of octets or words is written as runs: how many times, and which entry.
+`FFFF 0041 0001 001B` is 65,535 times 41, and then 1B.
 """
 from __future__ import annotations
 
@@ -20,7 +21,7 @@ import itertools
 import pathlib
 import random
 import sys
-from typing import Iterable, Iterator, NamedTuple, Optional, Sequence, Tuple
+from typing import Callable, Iterable, Iterator, NamedTuple, Optional, Sequence, Tuple
 
 sys.dont_write_bytecode = True
 import model
@@ -54,9 +55,12 @@ MOST_WORDS_PUT = 1024
 MOST_LENGTHS = 320
 MOST_PUT = 2048
 MOST_ANSWER = 8192
+MOST_LONG = 70_000
+MOST_RUNS = 32
 
 Pages = Sequence[Octets]
 Lengths = Tuple[int, ...]
+Said = Callable[[Iterable[int]], str]
 EXAMPLE = octets_of(model.EXAMPLE)
 HEADER = model.CASE_HEADER
 
@@ -290,11 +294,11 @@ def needed(case: Octets) -> Optional[int]:
     return len(words) if answer.number == 0 else None
 
 
-def rooms(case: Octets) -> Iterator[Reading]:
+def rooms(case: Octets, most: int = MOST_WORDS_PUT) -> Iterator[Reading]:
     """At each edge of the room: just enough, one short, one over, none, and the most. A refusal has the last two, no room first."""
     size = needed(case)
     edges = [] if size is None else [size, size - 1, size + 1]
-    for room in [*edges, 0, MOST_WORDS_PUT]:
+    for room in [*edges, 0, most]:
         if room >= 0:
             yield Reading(case, room)
 
@@ -509,26 +513,103 @@ def refused_writings() -> Iterator[Writing]:
             yield from write_rooms(form, lengths, octets)
 
 
+# Long cases: pages up to the longest, 65,535 octets, and of more octets together than a length can say.
+
+LONGEST = model.MOST_LENGTH
+LONG_SIZES: dict[int, list[Lengths]] = {
+    1: [(LONGEST,), (LONGEST, 300), (0x8000, 0x8000), (0x7FFF, 0x8001), (LONGEST, 0, 1)],
+    2: [(LONGEST, 300)],
+    3: [(300, LONGEST)],
+}
+
+
+def of_letters(sizes: Iterable[int]) -> list[Octets]:
+    """Pages of these sizes, each of one letter alone."""
+    return [(0x41 + page,) * size for page, size in enumerate(sizes)]
+
+
+def long_cases(form: int) -> Iterator[Octets]:
+    """Accepted; too short and too long; with a fault on the second page, and with an element that the first page cuts off."""
+    for sizes in LONG_SIZES[form]:
+        case = case_of(form, of_letters(sizes))
+        yield from (case, case[:-1], case + (0x41,))
+    page = (0x41,) * LONGEST
+    yield case_of(form, [page, (0x42,) * 299 + octets_of("1B")])
+    begun = octets_of(BEGUN[form].split()[0])
+    yield case_of(form, [page[len(begun) :] + begun, octets_of("65")])
+    yield laid_out(form, 2, (LONGEST, 4), (0x41,) * 3)
+    yield laid_out(form, 2, (LONGEST, 0x8000), (0x41,) * 0x7FFF)
+
+
+def long_readings() -> Iterator[Reading]:
+    for form in model.FORMS:
+        for case in long_cases(form):
+            yield from rooms(case, MOST_LONG)
+
+
+def long_pages() -> Iterator[Page]:
+    for form in model.FORMS:
+        for case in long_cases(form):
+            yield from (Page(case, page) for page in page_numbers(case))
+
+
+def long_writings() -> Iterator[Writing]:
+    """Lengths that add up, and that are off by one; and pages of one octet too many."""
+    for form, sizes in [(form, sizes) for form in model.FORMS for sizes in LONG_SIZES[form]]:
+        octets = joined(of_letters(sizes))
+        size = HEADER + 2 * len(sizes) + len(octets)
+        yield from (Writing(form, sizes, octets, room) for room in (size, size - 1, size + 1, 0, MOST_LONG))
+        yield Writing(form, sizes, octets[1:], MOST_LONG)
+        yield Writing(form, sizes, octets + (0x41,), MOST_LONG)
+    for sizes in ((LONGEST + 1,), (LONGEST + 1, 0), (1, LONGEST + 1), (LONGEST + 300,)):
+        yield Writing(1, sizes, joined(of_letters(sizes)), MOST_LONG)
+
+
 # Lines.
+
+
+def runs_text(entries: Iterable[int]) -> str:
+    """How many times, and which entry, for each run."""
+    runs = [(len(list(run)), entry) for entry, run in itertools.groupby(entries)]
+    assert len(runs) <= MOST_RUNS
+    return words_text(number for run in runs for number in run)
 
 
 def case_answer_text(answer: model.CaseAnswer) -> str:
     return f"{answer_text(model.Answer(*answer[:4]))} {place_text(answer.page)}"
 
 
-def reading_line(reading: Reading) -> str:
+def reading_text(reading: Reading, octets_said: Said, words_said: Said) -> str:
     case, room = reading
-    assert len(case) <= MOST_CASE and room <= MOST_WORDS_PUT
     answer, put = model.read_case(case, room)
     assert len(put) == (answer.count if answer.number == 0 else 0)
-    return f"{octets_text(case)},{place_text(room)},{case_answer_text(answer)},{words_text(put)}"
+    return f"{octets_said(case)},{place_text(room)},{case_answer_text(answer)},{words_said(put)}"
+
+
+def reading_line(reading: Reading) -> str:
+    assert len(reading.case) <= MOST_CASE and reading.room <= MOST_WORDS_PUT
+    return reading_text(reading, octets_text, words_text)
+
+
+def long_reading_line(reading: Reading) -> str:
+    assert max(len(reading.case), reading.room) <= MOST_LONG
+    return reading_text(reading, runs_text, runs_text)
+
+
+def page_text(asked: Page, octets_said: Said) -> str:
+    case, page = asked
+    answer = model.page_elements(case, page)
+    return f"{octets_said(case)},{page:02X},{'.' if answer is None else answer_text(answer)}"
 
 
 def page_line(asked: Page) -> str:
-    case, page = asked
-    assert len(case) <= MOST_CASE
-    answer = model.page_elements(case, page)
-    return f"{octets_text(case)},{page:02X},{'.' if answer is None else answer_text(answer)}"
+    assert len(asked.case) <= MOST_CASE
+    return page_text(asked, octets_text)
+
+
+def long_page_line(asked: Page) -> str:
+    assert len(asked.case) <= MOST_LONG
+    return page_text(asked, runs_text)
 
 
 def header_line(case: Octets) -> str:
@@ -538,13 +619,23 @@ def header_line(case: Octets) -> str:
     return f"{octets_text(case)},{said}"
 
 
-def writing_line(writing: Writing) -> str:
+def writing_text(writing: Writing, octets_said: Said) -> str:
     form, lengths, octets, room = writing
-    assert len(lengths) <= MOST_LENGTHS and len(octets) <= MOST_CASE and room <= MOST_PUT
+    assert len(lengths) <= MOST_LENGTHS
     answer, put = model.write_case(*writing)
     assert len(put) == (answer.count if answer.number == 0 else 0)
-    asked = f"{form:X},{words_text(lengths)},{octets_text(octets)},{place_text(room)}"
-    return f"{asked},{answer_text(answer)},{octets_text(put)}"
+    asked = f"{form:X},{words_text(lengths)},{octets_said(octets)},{place_text(room)}"
+    return f"{asked},{answer_text(answer)},{octets_said(put)}"
+
+
+def writing_line(writing: Writing) -> str:
+    assert len(writing.octets) <= MOST_CASE and writing.room <= MOST_PUT
+    return writing_text(writing, octets_text)
+
+
+def long_writing_line(writing: Writing) -> str:
+    assert max(len(writing.octets), writing.room) <= MOST_LONG
+    return writing_text(writing, runs_text)
 
 
 def files() -> dict[str, list[str]]:
@@ -554,6 +645,9 @@ def files() -> dict[str, list[str]]:
     found["header.csv"] = unlike(map(header_line, headers_asked()))
     found.update({f"write_{form}.csv": unlike(map(writing_line, writings(form))) for form in model.FORMS})
     found["write_refused.csv"] = unlike(map(writing_line, refused_writings()))
+    found["long_read.csv"] = unlike(map(long_reading_line, long_readings()))
+    found["long_page.csv"] = unlike(map(long_page_line, long_pages()))
+    found["long_write.csv"] = unlike(map(long_writing_line, long_writings()))
     return found
 
 
@@ -566,7 +660,7 @@ HEADINGS = {
 
 
 def heading(name: str) -> str:
-    return HEADINGS[name.removesuffix(".csv").split("_")[0]]
+    return HEADINGS[name.removeprefix("long_").removesuffix(".csv").split("_")[0]]
 
 
 def check_faults() -> None:

@@ -30,7 +30,7 @@ pub fn fill_words(room: &mut [u32]) {
 }
 
 // Whether the octets from `from` on are those from before the call.
-fn keeps_octets(room: &[u8], from: usize) -> bool {
+pub fn keeps_octets(room: &[u8], from: usize) -> bool {
     let mut i = from;
     while i < room.len() {
         if room[i] != octet_before(i) {
@@ -42,7 +42,7 @@ fn keeps_octets(room: &[u8], from: usize) -> bool {
 }
 
 // Whether the words from `from` on are those from before the call.
-fn keeps_words(room: &[u32], from: usize) -> bool {
+pub fn keeps_words(room: &[u32], from: usize) -> bool {
     let mut i = from;
     while i < room.len() {
         if room[i] != word_before(i) {

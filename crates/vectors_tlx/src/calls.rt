@@ -30,7 +30,7 @@ fn with_no_page(answer: Answer) -> CaseAnswer {
 }
 
 // The four numbers, without the page.
-fn without_page(answer: CaseAnswer) -> Answer {
+pub(crate) fn without_page(answer: CaseAnswer) -> Answer {
     Answer {
         number: answer.number,
         element: answer.element,
@@ -46,14 +46,14 @@ fn read_into(case: &[u8], words: &mut [u32], room: usize) -> CaseAnswer {
     tlx::read_case(case, &mut words[0..room])
 }
 
-fn read_first(octets: &[u8], n: usize, words: &mut [u32], room: usize) -> CaseAnswer {
+pub(crate) fn read_first(octets: &[u8], n: usize, words: &mut [u32], room: usize) -> CaseAnswer {
     if octets.len() < n {
         return with_no_page(unasked());
     }
     read_into(&octets[0..n], words, room)
 }
 
-fn page_first(octets: &[u8], n: usize, page: usize) -> Page {
+pub(crate) fn page_first(octets: &[u8], n: usize, page: usize) -> Page {
     if octets.len() < n {
         return Page::Is(unasked());
     }
@@ -74,40 +74,38 @@ fn write_into(form: u32, lengths: &[u32], octets: &[u8], case: &mut [u8], room: 
     tlx::write_case(form, lengths, octets, &mut case[0..room])
 }
 
-// With the octets that are written as text.
-fn write_octets_in(
-    form: u32,
-    lengths: &[u32],
-    text: &[u8],
-    case: &mut [u8],
-    room: usize,
-) -> Answer {
-    let mut octets = [0; 1024];
-    let n = octets_in(text, &mut octets);
-    if octets.len() < n {
-        return unasked();
-    }
-    write_into(form, lengths, &octets[0..n], case, room)
-}
-
-// With the lengths that are written as text too.
-fn write_parts_in(form: u32, sizes: &[u8], text: &[u8], case: &mut [u8], room: usize) -> Answer {
+// With the lengths that are written as text.
+fn write_sizes_in(form: u32, sizes: &[u8], octets: &[u8], case: &mut [u8], room: usize) -> Answer {
     let mut lengths = [0; 320];
     let n = words_in(sizes, &mut lengths);
     if lengths.len() < n {
         return unasked();
     }
-    write_octets_in(form, &lengths[0..n], text, case, room)
+    write_into(form, &lengths[0..n], octets, case, room)
+}
+
+pub(crate) fn write_first(
+    form: u32,
+    sizes: &[u8],
+    octets: &[u8],
+    n: usize,
+    case: &mut [u8],
+    room: usize,
+) -> Answer {
+    if octets.len() < n {
+        return unasked();
+    }
+    write_sizes_in(form, sizes, &octets[0..n], case, room)
 }
 
 // The five numbers, and a comma.
-fn put_case_answer(out: &mut [u8], answer: CaseAnswer) -> usize {
+pub(crate) fn put_case_answer(out: &mut [u8], answer: CaseAnswer) -> usize {
     let four = put_numbers(out, without_page(answer));
     let five = put_after_space(out, four, answer.page);
     put(out, five, b',')
 }
 
-fn put_page(out: &mut [u8], page: Page) -> usize {
+pub(crate) fn put_page(out: &mut [u8], page: Page) -> usize {
     match page {
         Page::Is(answer) => put_numbers(out, answer),
         Page::NoPage => put(out, 0, b'.'),
@@ -156,13 +154,15 @@ pub(crate) fn answer_header(out: &mut [u8], case: &[u8]) -> usize {
 pub(crate) fn answer_writing(
     out: &mut [u8],
     form: u32,
-    lengths: &[u8],
-    octets: &[u8],
+    sizes: &[u8],
+    text: &[u8],
     room: usize,
 ) -> usize {
+    let mut octets = [0; 1024];
+    let n = octets_in(text, &mut octets);
     let mut case = [0; 2048];
     fill_octets(&mut case);
-    let answer = write_parts_in(form, lengths, octets, &mut case, room);
+    let answer = write_first(form, sizes, &octets, n, &mut case, room);
     let next = put_answer(out, answer);
     put_octets(out, next, &case, written(answer))
 }

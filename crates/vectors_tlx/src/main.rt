@@ -6,9 +6,11 @@
 // One page: the case, the page's number, and the four numbers of its answer, or `.`, no such page.
 // The header: the case, and its form and how many pages, or `!13`, a refusal's number.
 // Writing: the form, the lengths, the page octets, the room, the four numbers of the answer, and the case that it puts.
-// The number of an answer is in decimal, and everything else in hex.
+// The number of an answer is in decimal, and everything else in hex. Lists of long cases are written as runs (`runs`).
 // In an answer of ours `?` stands where an entry that should be left alone is not, within the room or past it.
 mod calls;
+mod long;
+mod runs;
 
 use calls::answer_header;
 use calls::answer_page;
@@ -22,6 +24,9 @@ use lines::files::buffer;
 use lines::files::load;
 use lines::say::is_expected;
 use lines::say::say_totals;
+use long::answer_long_page;
+use long::answer_long_reading;
+use long::answer_long_writing;
 
 // What the lines of a file ask.
 enum Asked {
@@ -29,6 +34,9 @@ enum Asked {
     OnePage,
     HeaderAlone,
     Writing,
+    LongReading,
+    LongPage,
+    LongWriting,
 }
 
 // Which field of a line the answer begins with.
@@ -38,6 +46,9 @@ fn answer_field(asked: Asked) -> usize {
         Asked::OnePage => 2,
         Asked::HeaderAlone => 1,
         Asked::Writing => 4,
+        Asked::LongReading => 2,
+        Asked::LongPage => 2,
+        Asked::LongWriting => 4,
     }
 }
 
@@ -51,12 +62,22 @@ fn write_line(out: &mut [u8], line: &[u8]) -> usize {
     answer_writing(out, form, field(line, 1), field(line, 2), room)
 }
 
+fn write_long_line(out: &mut [u8], line: &[u8]) -> usize {
+    let form = number_field(line, 0);
+    let room = number_field(line, 3) as usize;
+    answer_long_writing(out, form, field(line, 1), field(line, 2), room)
+}
+
 fn answer(out: &mut [u8], asked: Asked, line: &[u8]) -> usize {
+    let second = number_field(line, 1) as usize;
     match asked {
-        Asked::Reading => answer_reading(out, field(line, 0), number_field(line, 1) as usize),
-        Asked::OnePage => answer_page(out, field(line, 0), number_field(line, 1) as usize),
+        Asked::Reading => answer_reading(out, field(line, 0), second),
+        Asked::OnePage => answer_page(out, field(line, 0), second),
         Asked::HeaderAlone => answer_header(out, field(line, 0)),
         Asked::Writing => write_line(out, line),
+        Asked::LongReading => answer_long_reading(out, field(line, 0), second),
+        Asked::LongPage => answer_long_page(out, field(line, 0), second),
+        Asked::LongWriting => write_long_line(out, line),
     }
 }
 
@@ -101,4 +122,7 @@ fn main() {
     run_file(b"write_2.csv", Asked::Writing);
     run_file(b"write_3.csv", Asked::Writing);
     run_file(b"write_refused.csv", Asked::Writing);
+    run_file(b"long_read.csv", Asked::LongReading);
+    run_file(b"long_page.csv", Asked::LongPage);
+    run_file(b"long_write.csv", Asked::LongWriting);
 }
