@@ -6,6 +6,5 @@ mod Parsed
 pub mod Words
 pub mod Writer
 pub mod Sizes
-pub mod Numbers
 pub mod Places
 pub mod OneAnswer

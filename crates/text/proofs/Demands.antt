@@ -10,7 +10,6 @@ use mathlib.Core.List.{List, [], _∷_, _++_}
 use native.Mathlib.Omega.{arith}
 use lib.ListN.{length, drop, length-append}
 use lib.Dec.{leb}
-use borrow.Author.Tests.{le-leb}
 use Rattle.run.specs.Choice.{pick}
 use Rattle.run.specs.Head.{Outcome, accepted, refusal, join}
 use Rattle.run.specs.Grammar.{Run, RunOf, done, more, Begins}
@@ -38,6 +37,7 @@ use Rattle.text.specs.Answers.{limit, inForm, within-limit, same, measur
 use Rattle.text.specs.Table.{NoForm, Answered, Formed, Tells, ReadingFault, WritingFault, ConvertingFault, ReadTable, WriteTable, ConvertTable, MeasureTable, LoneTable}
 use Rattle.text.proofs.Edges.{a-form, fitting, converted}
 use Rattle.text.proofs.Heads.{respell-reads}
+use Rattle.text.proofs.Loops.{count-is-place}
 use Rattle.text.proofs.Tables.{Meets, none-of-three, by-table, by-form, in-its-form, no-form-exactly, tells, kept-in-form}
 use Rattle.text.proofs.Converting.{read-meets, convert-meets, respelt-means, read-converts, Alike, respelt-alike}
 use Rattle.text.proofs.Measures.{measured-exactly}
@@ -415,9 +415,6 @@ module _ (form : ℕ) (f : Form) (is-form : formOf form ≡ Is f) where
 
 -- ======== Demand 3: joined texts, and conversions one after another
 
-count-place : (r d : ℕ) → r ≤ 8 → countOf r d ≡ d
-count-place r d h = simp (le-leb r 8 h)
-
 module _ (form : ℕ) (f : Form) (is-form : formOf form ≡ Is f) (s t : List ℕ) (within : length (s ++ t) ≤ limit) (es : List Element) (first : RunOf (Spells f) s es) where
   -- Two accepted texts of one form, joined, are accepted and mean both meanings joined, with room enough lent.
   pub joined-read : (words : List ℕ) (fs : List Element) → RunOf (Spells f) t fs → length (given wordsOf es ++ given wordsOf fs) ≤ length words
@@ -432,7 +429,7 @@ module _ (form : ℕ) (f : Form) (is-form : formOf form ≡ Is f) (s t : List �
       let v = subst (λ (a : Answer). Tells wordsOf (RunOf (Spells f) t) (ReadingFault f t) t words a (readWords form t words)) e (read-tells form f is-form t words) .is-fault (omega arith) (omega arith) (λ z. omega arith) in
       let q = outcomes.joined-refused (headIn f) (Spells f) (reads f) s t es r n p (v .0) (read-meets f s .runs es .1 first) (read-meets f t .faults r n p (v .0) .1 (v .2)) in
       let a = read-exactly form (s ++ t) words _ _ .1 (Formed.of-form is-form (Answered.fault within (read-meets f (s ++ t) .faults _ _ _ _ .0 q))) in
-      a .0 ∙ ap (answer r (length es + n) (length s + p)) (count-place r (length s + v .0) k ∙ ap (λ (i : ℕ). length s + i) (sym (v .3 ∙ count-place r (v .0) k)))
+      a .0 ∙ ap (answer r (length es + n) (length s + p)) (sym (count-is-place r (length s + v .0) k) ∙ ap (λ (i : ℕ). length s + i) (sym (v .3 ∙ sym (count-is-place r (v .0) k))))
 
 module _ (source target : ℕ) (f g : Form) (is-source : formOf source ≡ Is f) (is-target : formOf target ≡ Is g) (s t : List ℕ) (within : length (s ++ t) ≤ limit) (es fs : List Element) (first : RunOf (Spells f) s es) (second : RunOf (Spells f) t fs) (all-held : AllHeld g es) (u : List ℕ) (spelling : RunOf (CanonicalElement g) u es) where
   held-append : {xs ys : List Element} → AllHeld g xs → AllHeld g ys → AllHeld g (xs ++ ys)

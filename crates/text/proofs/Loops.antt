@@ -26,7 +26,7 @@ use Rattle.element.specs.Words.{wordsOf}
 use Rattle.element.specs.Grammar.{Spells}
 use Rattle.element.specs.Reading.{headSort, headIn, stepOf, stepAt}
 use Rattle.element.proofs.Reader.{reads, refuses-exactly-by}
-use Rattle.element.proofs.Numbers.{reading-numbers}
+use Rattle.element.proofs.Places.{reading-number}
 use Rattle.run.specs.Put.{Put}
 use Rattle.run.proofs.Puts.{put-as}
 use Rattle.element.specs.Spelling.{fitting}
@@ -85,7 +85,7 @@ module _ (f : Form) (text : List ℕ) where
   stop-by at n count m (element e k) q u l = absurd (u e (at + k) refl)
   stop-by at n count m (refused r d) q u l =
       measured-stop (headIn f) (Spells f) (reads f) wordsOf text at n count m r d (at + d) q
-      (count-is-place r (at + d) (reading-numbers (refuses-exactly-by f (drop at text) r d .0 q)))
+      (count-is-place r (at + d) (reading-number f (refuses-exactly-by f (drop at text) r d .0 q) .1))
   stop-by at n count m none q u l = absurd (measure-not-none (headIn f) (Spells f) (reads f) wordsOf text at n count m l q)
 
   pub read-stop : (at n count : ℕ) (x : Step) → Measured (headIn f) wordsOf text at n count → x ≡ stepAt f text at → OneOf (1 ∷ 2 ∷ []) (tagOf the-type x) → at < length text → refusedAs n x ≡ measured wordsOf (length text) (readIn f text)

@@ -25,7 +25,7 @@ use Rattle.text.specs.Outcomes.{Respells, respellHead, writeIn, respellI
 use Rattle.text.specs.Answers.{same, measured, roomFor, refusedAs}
 use Rattle.text.proofs.Passed.{Measured, measured-stop, measure-not-none, Filled, fill-never, fill-not-none}
 use Rattle.text.proofs.Heads.{respell-reads}
-use Rattle.element.proofs.Numbers.{reading-numbers}
+use Rattle.element.proofs.Places.{reading-number}
 use Rattle.text.proofs.Loops.{Here, not-read, count-is-place}
 
 -- ---- a head of elements, spelt in a form
@@ -119,7 +119,7 @@ module _ (f g : Form) (text : List ℕ) where
     respell-stop-by (element e k) q u l = absurd (u e (at + k) refl)
     respell-stop-by (refused r d) q u l =
         measured-stop (respellHead f g) (Respells f g) R same text at n count m r d (at + d) (ap (spelt g) q)
-        (count-is-place r (at + d) (reading-numbers (refuses-exactly-by f (drop at text) r d .0 q)))
+        (count-is-place r (at + d) (reading-number f (refuses-exactly-by f (drop at text) r d .0 q) .1))
     respell-stop-by none q u l = absurd (measure-not-none (respellHead f g) (Respells f g) R same text at n count m l (ap (spelt g) q))
 
     pub respell-stop : (x : Step) → x ≡ stepAt f text at → OneOf (1 ∷ 2 ∷ []) (tagOf the-type x) → at < length text → refusedAs n x ≡ measured same (length text) (respellIn f g text)

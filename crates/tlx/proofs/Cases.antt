@@ -1,4 +1,4 @@
--- What is read of a case and written as one, in document 01's words. `CaseOf`, `AllSpelt`, `Turned` and `text`'s `Refused-text` say when; the
+-- What is read of a case and written as one, in document 01's words. `CaseOf`, `AllSpelt`, `Turned` and `text`'s `ReadingFault` say when; the
 -- outcomes are those that the contracts of `read_case`, `page_elements` and `write_case` cite.
 -- Assumes nothing.
 use Prim.Native.Nat.{ℕ, suc, _+_, _≤_, _<_}
@@ -11,7 +11,7 @@ use lib.ListN.{length, getD}
 use borrow.Author.Tests.{le-leb, lt-leb, lt-ltb, le-ltb, leb-true, leb-false}
 use mathlib.Core.Bool.{Bool, true, false}
 use lib.Dec.{leb, lit<}
-use Rattle.element.proofs.Numbers.{reading-numbers}
+use Rattle.element.proofs.Places.{reading-number}
 use Rattle.tlx.specs.declared.CaseAnswer.{CaseAnswer}
 use Rattle.run.specs.Head.{Outcome, accepted, refusal}
 use Rattle.run.specs.Grammar.{RunOf}
@@ -25,6 +25,7 @@ use Rattle.element.specs.Words.{wordsOf}
 use Rattle.element.specs.Grammar.{Spells}
 use Rattle.text.specs.Outcomes.{readIn}
 use Rattle.text.specs.Answers.{measureAnswer}
+use Rattle.text.specs.Table.{ReadingFault}
 use Rattle.text.proofs.Demands as text
 use Rattle.tlx.specs.declared.Header.{Header}
 use Rattle.tlx.specs.declared.Header.the-variants.{Refused, Pages}
@@ -45,7 +46,7 @@ pub record Faulty (f : Form) (pages : List (List ℕ)) (g r n p d : ℕ) : Type 
   pub elements : List Element
   pub whole : pages ≡ before ++ (page ∷ behind)
   pub spelt : AllSpelt f before elements
-  pub refused : text.Refused-text f page r n p d
+  pub refused : ReadingFault f page r n p d
   pub named : g ≡ length before
 
 module _ (f : Form) where
@@ -241,7 +242,7 @@ turned-high (Turned.wrong-size w h n) = lit< tt
 
 refused-not-9 : {case : List ℕ} {g r n p d : ℕ} → RefusedCase case g r n p d → r ≡ 9 → ⊥
 refused-not-9 (of-case t) e = omega (arith, turned-high t)
-refused-not-9 (of-page q c i) e = omega (arith, reading-numbers (i .refused .here))
+refused-not-9 (of-page q c i) e = omega (arith, reading-number _ (i .refused .here) .1)
 
 module _ (case : List ℕ) (octets : Octets case) (words : List ℕ) where
   -- the room is short of what the case needs
