@@ -63,7 +63,7 @@ CASES = {
     "refused-6": case(3, b"\x9b\x3a\x6d"),
     "refused-7": case(3, b"\x9b1000\x6d"),
     "refused-8": case(3, b"\x9b" + b"0" * 38 + b"00"),
-    "refused-on-page-2": case(1, b"A", b"\xc2e", b"ABC\xc2b", b"\xa4"),
+    "refused-on-page-2": case(1, b"A", b"\xc2e", b"\xc2eABC\xc2b", b"\xa4"),
     "refused-11": EXAMPLE[:5] + b"\x04" + EXAMPLE[6:],
     "refused-13-mark": b"TLY" + EXAMPLE[3:],
     "refused-13-short": EXAMPLE[:7],
@@ -92,6 +92,8 @@ def main() -> int:
     # The numbers that a case can meet, each met by one at least.
     numbers = {model.read_case(octets)[0].number for octets in CASES.values() if len(octets) <= MOST_INPUT}
     assert numbers == {0, *range(1, 9), 11, 13, 14, 15}
+    # One refusal has five different numbers, so that none can stand in another's place.
+    assert len(set(model.read_case(CASES["refused-on-page-2"])[0])) == 5
     check = sys.argv[1:] == ["--check"]
     wrong = 0
     for path, octets in files().items():

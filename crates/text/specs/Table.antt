@@ -66,9 +66,13 @@ pub record Tells {A : Type 0} (gives : A → List ℕ) (Runs : List A → Type 0
   -- "A refusal writes nothing to any buffer."
   pub kept : (a .number ≡ 0 → ⊥) → after ≡ buffer
 
+-- a form's number: 1 to 3
+abbrev pub IsForm : ℕ → Type 0
+IsForm form = (form ≡ 1) ⊎ ((form ≡ 2) ⊎ (form ≡ 3))
+
 -- "form not 1 to 3"
 abbrev pub NoForm : ℕ → Type 0
-NoForm form = ((form ≡ 1) ⊎ ((form ≡ 2) ⊎ (form ≡ 3))) → ⊥
+NoForm form = IsForm form → ⊥
 
 -- 11 goes before
 pub data Formed (form : ℕ) (buffer : List ℕ) (Inside : Form → Answer → List ℕ → Type 0) : Answer → List ℕ → Type 0 where

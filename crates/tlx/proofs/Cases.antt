@@ -1,8 +1,7 @@
--- What is read of a case and written as one, in document 01's words. `CaseOf`, `AllSpelt`, `Turned` and `text`'s `ReadingFault` say when; the
--- outcomes are those that the contracts of `read_case`, `page_elements` and `write_case` cite.
+-- The theorems of record of reading a case: what `read_case` and `page_elements` are worth, in document 01's words (`CaseTable`).
 -- Assumes nothing.
 use Prim.Native.Nat.{ℕ, suc, _+_, _≤_, _<_}
-use mathlib.Core.Path.{_≡_, refl, sym, ap, ap₂, subst, _∙_}
+use mathlib.Core.Path.{_≡_, refl, sym, ap, ap₂, subst, subst₂, _∙_}
 use mathlib.Core.Logic.{_↔_}
 use mathlib.Core.List.{List, [], _∷_, _++_}
 use native.Mathlib.Nat.{add-zero}
@@ -13,9 +12,10 @@ use mathlib.Core.Bool.{Bool, true, false}
 use lib.Dec.{leb, lit<}
 use Rattle.element.proofs.Places.{reading-number}
 use Rattle.tlx.specs.declared.CaseAnswer.{CaseAnswer}
+use Rattle.run.specs.Choice.{pick}
 use Rattle.run.specs.Head.{Outcome, accepted, refusal}
 use Rattle.run.specs.Grammar.{RunOf}
-use Rattle.run.specs.Answers.{answer, bare, countOf, given, over}
+use Rattle.run.specs.Answers.{answer, bare, given, writtenOf, over}
 use Rattle.run.proofs.Answers as answers
 use Rattle.alphabet.specs.declared.Form.{Form}
 use Rattle.alphabet.specs.declared.FormFound.the-variants.{Is}
@@ -25,29 +25,18 @@ use Rattle.element.specs.Words.{wordsOf}
 use Rattle.element.specs.Grammar.{Spells}
 use Rattle.text.specs.Outcomes.{readIn}
 use Rattle.text.specs.Answers.{measureAnswer}
-use Rattle.text.specs.Table.{ReadingFault}
 use Rattle.text.proofs.Demands as text
 use Rattle.tlx.specs.declared.Header.{Header}
 use Rattle.tlx.specs.declared.Header.the-variants.{Refused, Pages}
 use Rattle.tlx.specs.declared.Page.the-variants.{Is as IsPage, NoPage}
 use Rattle.tlx.specs.Check.{headerOf}
 use Rattle.tlx.specs.Grammar.{Octets, CaseOf, Turned, AllSpelt, none, more}
-use Rattle.tlx.specs.Reading.{CaseOutcome, all, fault, joinPages, afterPage, readPages, readCase, beside, readCaseAnswer, readCaseWords, pageAnswer, outcomeOf}
+use Rattle.tlx.specs.Table.{Faulty, AcceptedCase, RefusedCase, of-case, of-page, CaseTable, CaseTells}
+use Rattle.tlx.specs.Reading.{CaseOutcome, all, fault, joinPages, afterPage, readPages, readCase, beside, readCaseAnswer, readCaseWords, pageAnswer, outcomeOf, caseAnswer}
 use Rattle.tlx.proofs.Pages.{join-none, join-join}
 use Rattle.tlx.proofs.Checked.{is-found, turned-exactly}
 use Rattle.tlx.proofs.Laid.{laid-exactly, case-header, case-pages}
 use Rattle.tlx.proofs.Rooms.{case-turned}
-
--- the pages are refused at one of them: those before it are runs of elements, and it is refused as a text of its octets alone
-pub record Faulty (f : Form) (pages : List (List ℕ)) (g r n p d : ℕ) : Type 0 where
-  pub before : List (List ℕ)
-  pub page : List ℕ
-  pub behind : List (List ℕ)
-  pub elements : List Element
-  pub whole : pages ≡ before ++ (page ∷ behind)
-  pub spelt : AllSpelt f before elements
-  pub refused : ReadingFault f page r n p d
-  pub named : g ≡ length before
 
 module _ (f : Form) where
   -- ---- pages, one after another
@@ -138,24 +127,19 @@ module _ (f : Form) where
 
 -- ---- a whole case
 
--- the octets are the case of pages that are runs of elements: es, one page after another
-pub record AcceptedCase (case : List ℕ) (es : List Element) : Type 0 where
-  pub form : ℕ
-  pub the-form : Form
-  pub is-form : formOf form ≡ Is the-form
-  pub pages : List (List ℕ)
-  pub laid : CaseOf case form pages
-  pub spelt : AllSpelt the-form pages es
-
--- how a case is refused: by itself, or the case of pages is refused at one of them
-pub data RefusedCase (case : List ℕ) : ℕ → ℕ → ℕ → ℕ → ℕ → Type 0 where
-  of-case : {r : ℕ} → Turned case r → RefusedCase case 0 r 0 0 0
-  of-page : {form : ℕ} {f : Form} {pages : List (List ℕ)} {g r n p d : ℕ} → formOf form ≡ Is f → CaseOf case form pages → Faulty f pages g r n p d → RefusedCase case g r n p d
-
 -- "Every page is read by itself": the case of pages comes to what its pages come to, each read from its octets alone
 pub read-laid : (case : List ℕ) (form : ℕ) (f : Form) (pages : List (List ℕ)) → formOf form ≡ Is f → CaseOf case form pages → readCase case ≡ readPages f pages
 unfolding readCase
 read-laid case form f pages q c = simp (case-header case form pages c, q) (ap (readPages f) (case-pages case form pages c))
+
+-- the case of pages that are runs of elements is accepted
+accepted-read : {case : List ℕ} {es : List Element} → AcceptedCase case es → readCase case ≡ all es
+accepted-read {case} {es} a =
+    read-laid case (a .form) (a .the-form) (a .pages) (a .is-form) (a .laid) ∙ pages-accepted (a .the-form) (a .pages) es .1 (a .spelt)
+
+refused-read : {case : List ℕ} {g r n p d : ℕ} → RefusedCase case g r n p d → readCase case ≡ fault g r n p d
+refused-read {case} (of-case {r} t) = case-turned case r (turned-exactly case r .1 t)
+refused-read {case} (of-page {form} {f} {pages} {g} {r} {n} {p} {d} q c i) = read-laid case form f pages q c ∙ pages-refused f pages g r n p d .1 i
 
 module _ (case : List ℕ) (octets : Octets case) where
   accepted-by : (es : List Element) → readCase case ≡ all es → (h : Header) → headerOf case ≡ h → AcceptedCase case es
@@ -174,8 +158,7 @@ module _ (case : List ℕ) (octets : Octets case) where
 
   -- A case is accepted exactly when it has the layout with every page accepted, and its elements are its pages' joined.
   pub case-accepted : (es : List Element) → (readCase case ≡ all es) ↔ AcceptedCase case es
-  case-accepted es =
-      (λ q. accepted-by es q (headerOf case) refl, λ a. read-laid case (a .form) (a .the-form) (a .pages) (a .is-form) (a .laid) ∙ pages-accepted (a .the-form) (a .pages) es .1 (a .spelt))
+  case-accepted es = (λ q. accepted-by es q (headerOf case) refl, accepted-read)
 
   refused-by : (g r n p d : ℕ) → readCase case ≡ fault g r n p d → (h : Header) → headerOf case ≡ h → RefusedCase case g r n p d
   refused-by g r n p d q (Refused k) e =
@@ -185,89 +168,96 @@ module _ (case : List ℕ) (octets : Octets case) where
       let en : 0 ≡ n = cc in
       let ep : 0 ≡ p = cc in
       let ed : 0 ≡ d = cc in
+      let i : RefusedCase case 0 k 0 0 0 = of-case (turned-exactly case k .0 e) in
       subst (λ (x : ℕ). RefusedCase case g r n p x) ed
       (subst (λ (x : ℕ). RefusedCase case g r n x 0) ep
-      (subst (λ (x : ℕ). RefusedCase case g r x 0 0) en
-      (subst (λ (x : ℕ). RefusedCase case g x 0 0 0) er (subst (λ (x : ℕ). RefusedCase case x k 0 0 0) eg (of-case (turned-exactly case k .0 e))))))
+      (subst (λ (x : ℕ). RefusedCase case g r x 0 0) en (subst₂ (λ (x y : ℕ). RefusedCase case x y 0 0 0) eg er i)))
   refused-by g r n p d q (Pages form k) e =
       let l = laid-exactly case octets form k .0 e in
       let f = is-found form (l .2 .is-form) in
       of-page (f .1) (l .2) (pages-refused (f .0) (l .0) g r n p d .0 (sym (read-laid case form (f .0) (l .0) (f .1) (l .2)) ∙ q))
-
-  refused-read : {g r n p d : ℕ} → RefusedCase case g r n p d → readCase case ≡ fault g r n p d
-  refused-read (of-case {r} t) = case-turned case r (turned-exactly case r .1 t)
-  refused-read (of-page {form} {f} {pages} {g} {r} {n} {p} {d} q c i) = read-laid case form f pages q c ∙ pages-refused f pages g r n p d .1 i
 
   -- A case is refused exactly by 01's table: 13, 14, 11, 15 by itself, with page 0 and no place; else at the first page that is refused, which
   -- is named, element and places counted from that page's start.
   pub case-refused : (g r n p d : ℕ) → (readCase case ≡ fault g r n p d) ↔ RefusedCase case g r n p d
   case-refused g r n p d = (λ q. refused-by g r n p d q (headerOf case) refl, refused-read)
 
-  -- ---- the same, of what `read_case` answers and of the words it leaves
+-- ---- the same, of what `read_case` answers and of the words it leaves
 
-  module _ (words : List ℕ) where
-    -- "An accepted case answers 0, all elements, its length, and the count of its pages' words, written one page after another", with room
-    pub read-accepted : (es : List Element) → AcceptedCase case es → length (given wordsOf es) ≤ length words
-        → (readCaseAnswer case (length words) ≡ beside 0 (answer 0 (length es) (length case) (length (given wordsOf es)))) × (readCaseWords case words ≡ over words (given wordsOf es))
-    unfolding readCaseAnswer readCaseWords
-    read-accepted es a h =
-        let q = case-accepted es .1 a in
-        let t = le-leb (length (given wordsOf es)) (length words) h in
-        (simp (q, t), simp (q, t))
-
-    -- 9: "lent room is short", with the room needed, after all else
-    pub read-short : (es : List Element) → AcceptedCase case es → length words < length (given wordsOf es)
-        → (readCaseAnswer case (length words) ≡ beside 0 (answer 9 0 0 (length (given wordsOf es)))) × (readCaseWords case words ≡ words)
-    unfolding readCaseAnswer readCaseWords
-    read-short es a h =
-        let q = case-accepted es .1 a in
-        let t = lt-leb (length (given wordsOf es)) (length words) h in
-        (simp (q, t), simp (q, t))
-
-    -- a refused case: the page, and the number, element, place and count of the table; the words as they were
-    pub read-refused : (g r n p d : ℕ) → RefusedCase case g r n p d
-        → (readCaseAnswer case (length words) ≡ beside g (answer r n p (countOf r d))) × (readCaseWords case words ≡ words)
-    unfolding readCaseAnswer readCaseWords
-    read-refused g r n p d i = let q = case-refused g r n p d .1 i in (simp q, simp q)
-
--- ---- 9, exactly
-
-turned-high : {case : List ℕ} {r : ℕ} → Turned case r → 9 < r
-turned-high (Turned.under-8 h) = lit< tt
-turned-high (Turned.wrong-mark h n) = lit< tt
-turned-high (Turned.other-version w n) = lit< tt
-turned-high (Turned.no-form w n) = lit< tt
-turned-high (Turned.over-256 w h) = lit< tt
-turned-high (Turned.wrong-size w h n) = lit< tt
-
-refused-not-9 : {case : List ℕ} {g r n p d : ℕ} → RefusedCase case g r n p d → r ≡ 9 → ⊥
-refused-not-9 (of-case t) e = omega (arith, turned-high t)
-refused-not-9 (of-page q c i) e = omega (arith, reading-number _ (i .refused .here) .1)
+module _ {case words : List ℕ} where
+  -- each row of the table is answered so
+  pub of-row : {a : CaseAnswer} {after : List ℕ} → CaseTable case words a after → (readCaseAnswer case (length words) ≡ a) × (readCaseWords case words ≡ after)
+  unfolding readCaseAnswer readCaseWords
+  of-row (CaseTable.refused i) = let q = refused-read i in (simp q, simp q)
+  of-row (CaseTable.short-room {es} a h) =
+      let q = accepted-read a in let t = lt-leb (length (given wordsOf es)) (length words) h in (simp (q, t), simp (q, t))
+  of-row (CaseTable.accepted {es} a h) =
+      let q = accepted-read a in let t = le-leb (length (given wordsOf es)) (length words) h in (simp (q, t), simp (q, t))
 
 module _ (case : List ℕ) (octets : Octets case) (words : List ℕ) where
-  -- the room is short of what the case needs
-  abbrev pub Short : Type 0
-  Short = (es : List Element) × AcceptedCase case es × (length words < length (given wordsOf es))
+  by-room : (es : List Element) → AcceptedCase case es → (t : Bool) → leb (length (given wordsOf es)) (length words) ≡ t
+      → CaseTable case words (beside 0 (pick t (answer 0 (length es) (length case) (length (given wordsOf es))) (answer 9 0 0 (length (given wordsOf es))))) (pick t (over words (given wordsOf es)) words)
+  by-room es a true e = CaseTable.accepted a (leb-true _ _ e)
+  by-room es a false e = CaseTable.short-room a (leb-false _ _ e)
 
-  short-by : (es : List Element) → AcceptedCase case es → (t : Bool) → leb (length (given wordsOf es)) (length words) ≡ t → readCaseAnswer case (length words) .number ≡ 9 → Short
-  short-by es a true e q =
-      let r = read-accepted case octets words es a (leb-true (length (given wordsOf es)) (length words) e) .0 in
-      let z : _≡_ {A = ℕ} 0 9 = sym (ap (λ (y : CaseAnswer). y .number) r) ∙ q in
-      absurd (omega arith)
-  short-by es a false e q = (es, a, leb-false (length (given wordsOf es)) (length words) e)
+  by-outcome : (x : CaseOutcome) → readCase case ≡ x → CaseTable case words (caseAnswer (length case) (length words) x) (writtenOf wordsOf words (outcomeOf x))
+  by-outcome (all es) q = by-room es (case-accepted case octets es .0 q) (leb (length (given wordsOf es)) (length words)) refl
+  by-outcome (fault g r n p d) q = CaseTable.refused (case-refused case octets g r n p d .0 q)
 
-  forth-by : (x : CaseOutcome) → readCase case ≡ x → readCaseAnswer case (length words) .number ≡ 9 → Short
-  forth-by (all es) e q =
-      short-by es (case-accepted case octets es .0 e) (leb (length (given wordsOf es)) (length words)) refl q
-  forth-by (fault g r n p d) e q =
-      let i = case-refused case octets g r n p d .0 e in
-      let a = read-refused case octets words g r n p d i .0 in
-      absurd (refused-not-9 i (sym (ap (λ (y : CaseAnswer). y .number) a) ∙ q))
+  -- Each of 11, 13, 14, 15, 9 and a page's refusal is given exactly when 01's table and order say so, with its page; and so is an acceptance.
+  pub read-case-exactly : (a : CaseAnswer) (after : List ℕ) → ((readCaseAnswer case (length words) ≡ a) × (readCaseWords case words ≡ after)) ↔ CaseTable case words a after
+  unfolding readCaseAnswer readCaseWords
+  read-case-exactly a after = (λ e. subst₂ (CaseTable case words) (e .0) (e .1) (by-outcome (readCase case) refl), of-row)
 
-  -- 9 is given exactly when the case is accepted and the lent room is short of its words
-  pub short-exactly : (readCaseAnswer case (length words) .number ≡ 9) ↔ Short
-  short-exactly =
-      (λ q. forth-by (readCase case) refl q, λ s. ap (λ (y : CaseAnswer). y .number) (read-short case octets words (s .0) (s .1) (s .2) .0))
+-- ---- the number tells the row
+
+turned-number : {case : List ℕ} {r : ℕ} → Turned case r → (10 < r) × (r ≡ 12 → ⊥)
+turned-number (Turned.under-8 h) = (lit< tt, λ e. omega arith)
+turned-number (Turned.wrong-mark h n) = (lit< tt, λ e. omega arith)
+turned-number (Turned.other-version w n) = (lit< tt, λ e. omega arith)
+turned-number (Turned.no-form w n) = (lit< tt, λ e. omega arith)
+turned-number (Turned.over-256 w h) = (lit< tt, λ e. omega arith)
+turned-number (Turned.wrong-size w h n) = (lit< tt, λ e. omega arith)
+
+refused-number : {case : List ℕ} {g r n p d : ℕ} → RefusedCase case g r n p d → (0 < r) × (r ≡ 9 → ⊥) × (r ≡ 10 → ⊥) × (r ≡ 12 → ⊥)
+refused-number (of-case t) =
+    let z = turned-number t in (omega (arith, z .0), λ e. omega (arith, z .0), λ e. omega (arith, z .0), z .1)
+refused-number (of-page {f = f} q c i) =
+    let z = reading-number f (i .refused .here) in
+    (omega (arith, z .0), λ e. omega (arith, z .1), λ e. omega (arith, z .1), λ e. omega (arith, z .1))
+
+row-tells : {case words : List ℕ} {a : CaseAnswer} {after : List ℕ} → CaseTable case words a after → CaseTells case words a after
+row-tells (CaseTable.refused {g} {r} {n} {p} {d} i) =
+    let z = refused-number i in
+    record {
+      is-0 = λ e. absurd (omega (arith, z .0));
+      is-9 = λ e. absurd (z .1 e);
+      is-other = λ x y. (d, i, refl);
+      not-10 = z .2;
+      not-12 = z .3;
+      kept = λ x. refl;
+    }
+row-tells (CaseTable.short-room {es} a h) =
+    record {
+      is-0 = λ e. absurd (omega arith);
+      is-9 = λ e. (es, a, h, refl);
+      is-other = λ x y. absurd (y refl);
+      not-10 = λ e. omega arith;
+      not-12 = λ e. omega arith;
+      kept = λ x. refl;
+    }
+row-tells (CaseTable.accepted {es} a h) =
+    record {
+      is-0 = λ e. (es, a, h, refl, refl);
+      is-9 = λ e. absurd (omega arith);
+      is-other = λ x y. absurd (x refl);
+      not-10 = λ e. omega arith;
+      not-12 = λ e. omega arith;
+      kept = λ x. absurd (x refl);
+    }
+
+pub read-case-tells : (case : List ℕ) → Octets case → (words : List ℕ) → CaseTells case words (readCaseAnswer case (length words)) (readCaseWords case words)
+read-case-tells case octets words = row-tells (read-case-exactly case octets words _ _ .0 (refl, refl))
 
 -- ---- of any case: what is not written
 

@@ -1,58 +1,56 @@
 -- A case is turned away with 13, 14, 11 or 15 exactly when document 01's table and order say so.
 -- Assumes nothing.
 use Prim.Native.Nat.{ℕ, _≤_}
-use mathlib.Core.Path.{_≡_, refl, sym, ap₂, subst, _∙_}
-use mathlib.Core.Logic.{_↔_}
+use mathlib.Core.Path.{_≡_, refl, sym, ap, ap₂, subst, _∙_}
+use mathlib.Core.Logic.{_↔_, inl, inr}
 use mathlib.Core.Bool.{Bool, true, false}
 use mathlib.Core.List.{List, [], _∷_}
 use native.Mathlib.Omega.{arith}
 use lib.Dec.{eqb, leb}
 use lib.ListN.{length, take, getD}
 use borrow.Author.Tests.{eqb-true, eqb-false, leb-true, leb-false, eq-eqb}
-use Rattle.run.specs.Choice.{pick}
+use Rattle.run.specs.Answers.{bare}
 use Rattle.alphabet.specs.declared.Form.{Form}
-use Rattle.alphabet.specs.declared.Form.the-variants.{Eight, Seven, Basic}
 use Rattle.alphabet.specs.declared.FormFound.{FormFound}
 use Rattle.alphabet.specs.declared.FormFound.the-variants.{Is, Nothing}
-use Rattle.alphabet.specs.Forms.{formOf}
+use Rattle.alphabet.specs.Forms.{formOf, formNumber}
+use Rattle.alphabet.proofs.Numbers.{form-number}
+use Rattle.text.specs.Table.{IsForm, NoForm}
 use Rattle.tlx.specs.declared.Header.{Header}
 use Rattle.tlx.specs.declared.Header.the-variants.{Refused, Pages}
 use Rattle.tlx.specs.Layout.{mark, number16}
-use Rattle.tlx.specs.Check.{begins, headerOf}
-use Rattle.tlx.specs.Grammar.{IsForm, Marked, Versioned, Formed, Turned, Sound, sizeSaid}
+use Rattle.tlx.specs.Check.{begins, headerOf, headerAnswer}
+use Rattle.tlx.specs.Grammar.{Marked, Versioned, Formed, Turned, Sound, sizeSaid}
 use Rattle.tlx.proofs.Headers.{short, unmarked, other-version, no-form, many, wrong-size, right, picked}
 
 -- ---- a form's number
 
-found-by : (form : ℕ) → IsForm form → (a : Bool) → eqb form 1 ≡ a → (b : Bool) → eqb form 2 ≡ b → (c : Bool) → eqb form 3 ≡ c → (f : Form) × (pick a (Is Eight) (pick b (Is Seven) (pick c (Is Basic) Nothing)) ≡ Is f)
-found-by form i true p b q c r = (Eight, refl)
-found-by form i false p true q c r = (Seven, refl)
-found-by form i false p false q true r = (Basic, refl)
-found-by form i false p false q false r =
-    absurd (omega (arith, eqb-false form 1 p, eqb-false form 2 q, eqb-false form 3 r, i .from-1, i .to-3))
-
 -- forms 1 to 3 are known
 pub is-found : (form : ℕ) → IsForm form → (f : Form) × (formOf form ≡ Is f)
-is-found form i = found-by form i (eqb form 1) refl (eqb form 2) refl (eqb form 3) refl
-
-is-by : (form : ℕ) (f : Form) (a : Bool) → eqb form 1 ≡ a → (b : Bool) → eqb form 2 ≡ b → (c : Bool) → eqb form 3 ≡ c → pick a (Is Eight) (pick b (Is Seven) (pick c (Is Basic) Nothing)) ≡ Is f → IsForm form
-is-by form f true p b q c r e = let n = eqb-true form 1 p in record { from-1 = omega arith; to-3 = omega arith }
-is-by form f false p true q c r e = let n = eqb-true form 2 q in record { from-1 = omega arith; to-3 = omega arith }
-is-by form f false p false q true r e = let n = eqb-true form 3 r in record { from-1 = omega arith; to-3 = omega arith }
-is-by form f false p false q false r e = let z : _≡_ {A = ℕ} 0 1 = cc in absurd (omega arith)
+is-found form i = by (formOf form) refl (form-number form .1 i)
+  where
+    by : (y : FormFound) → formOf form ≡ y → formNumber y ≡ 0 → (f : Form) × (formOf form ≡ Is f)
+    by (Is f) q e = (f, q)
+    by Nothing q e = absurd (omega arith)
 
 -- and no others
 pub found-is : (form : ℕ) (f : Form) → formOf form ≡ Is f → IsForm form
-found-is form f = is-by form f (eqb form 1) refl (eqb form 2) refl (eqb form 3) refl
+found-is form f q = form-number form .0 (ap formNumber q)
 
-pub not-found : (form : ℕ) → (IsForm form → ⊥) → formOf form ≡ Nothing
+-- a form's number is an octet, and small
+pub form-small : (form : ℕ) → IsForm form → form ≤ 3
+form-small form (inl e) = omega arith
+form-small form (inr (inl e)) = omega arith
+form-small form (inr (inr e)) = omega arith
+
+pub not-found : (form : ℕ) → NoForm form → formOf form ≡ Nothing
 not-found form n = by (formOf form) refl
   where
     by : (y : FormFound) → formOf form ≡ y → y ≡ Nothing
     by (Is f) q = absurd (n (found-is form f q))
     by Nothing q = refl
 
-pub nothing-is : (form : ℕ) → formOf form ≡ Nothing → IsForm form → ⊥
+pub nothing-is : (form : ℕ) → formOf form ≡ Nothing → NoForm form
 nothing-is form q i = let f = is-found form i in let e = f .1 in let z : _≡_ {A = ℕ} 0 1 = cc in omega arith
 
 -- ---- the mark
@@ -184,3 +182,11 @@ module _ (case : List ℕ) where
   pub sound-exactly : (form n : ℕ) → (headerOf case ≡ Pages form n) ↔ (Sound case × (getD case 5 0 ≡ form) × (number16 case 6 ≡ n))
   sound-exactly form n =
       (λ q. sound-of decided form n q, λ s. sound-header (s .0) ∙ ap₂ Pages (s .1) (s .2))
+
+-- ---- 01's number of what header and table say
+
+pub refused-number : (case : List ℕ) (r : ℕ) → Turned case r → headerAnswer (headerOf case) ≡ bare r
+refused-number case r t = ap headerAnswer (turned-exactly case r .1 t)
+
+pub right-number : (case : List ℕ) → Sound case → headerAnswer (headerOf case) ≡ bare 0
+right-number case s = ap headerAnswer (sound-header case s)

@@ -1,25 +1,29 @@
 -- What `write_case` answers, exactly when; and what a written case is read as.
 -- Assumes nothing.
 use Prim.Native.Nat.{ℕ, _+_, _*_, _≤_}
-use mathlib.Core.Path.{_≡_, refl, sym, ap, subst, _∙_}
+use mathlib.Core.Path.{_≡_, refl, ap, subst₂, _∙_}
 use mathlib.Core.Logic.{_↔_}
 use mathlib.Core.Bool.{Bool, true, false}
 use mathlib.Core.List.{List, [], _∷_, List·Memᴰ, List·Memᴰ·head, List·Memᴰ·tail, List·Memᴰ·not-nil}
 use native.Mathlib.Omega.{arith}
 use lib.Dec.{leb}
-use lib.ListN.{length, drop, length-take}
+use lib.ListN.{length, drop, getD, length-take}
 use borrow.Author.Tests.{eq-eqb, leb-true, leb-false, le-leb, lt-leb}
 use Rattle.run.specs.Choice.{pick}
+use Rattle.run.specs.declared.Answer.{Answer}
 use Rattle.run.specs.Answers.{answer, bare, over}
+use Rattle.run.proofs.Answers.{over-past}
 use Rattle.alphabet.specs.declared.FormFound.{FormFound}
 use Rattle.alphabet.specs.declared.FormFound.the-variants.{Is, Nothing}
 use Rattle.alphabet.specs.Forms.{formOf}
 use Rattle.text.specs.Answers.{inForm}
+use Rattle.text.specs.Table.{IsForm}
 use Rattle.tlx.specs.declared.Header.the-variants.{Pages}
 use Rattle.tlx.specs.Layout.{total, cut, caseWith}
 use Rattle.tlx.specs.Check.{headerOf, lengthsOf, pagesOf}
-use Rattle.tlx.specs.Grammar.{IsForm, CaseOf, Parts, Written}
-use Rattle.tlx.specs.Writing.{noneOver, fitting, writeCaseAnswer, writeCaseOctets}
+use Rattle.tlx.specs.Grammar.{CaseOf, Parts}
+use Rattle.tlx.specs.Table.{WriteCaseTable}
+use Rattle.tlx.specs.Writing.{noneOver, fitting, writtenAnswer, writeCaseAnswer, writeCaseOctets}
 use Rattle.tlx.proofs.Parts.{fits}
 use Rattle.tlx.proofs.Writes.{case-length}
 use Rattle.tlx.proofs.Checked.{is-found, found-is, not-found, nothing-is}
@@ -54,49 +58,60 @@ unfolding fitting
 of-parts lengths octets p =
     simp (le-leb (length lengths) 0x100 (p .few), members-none lengths (p .short), eq-eqb (total lengths) (length octets) (p .sum))
 
--- ---- which number, exactly
+-- ---- which answer, exactly
 
-module _ (form : ℕ) (lengths octets : List ℕ) (room : ℕ) where
-  size-is : Parts lengths octets → length (caseWith form lengths octets) ≡ 8 + 2 * length lengths + total lengths
-  size-is p = omega (arith, case-length form lengths octets, p .sum)
+-- the size of a written case: "8 + 2 x pages + the lengths"
+pub written-size : (form : ℕ) (lengths octets : List ℕ) → Parts lengths octets → length (caseWith form lengths octets) ≡ 8 + 2 * length lengths + total lengths
+written-size form lengths octets p = omega (arith, case-length form lengths octets, p .sum)
 
-  answered : {r : ℕ} → Written form lengths octets room r → writeCaseAnswer form lengths octets room .number ≡ r
-  unfolding writeCaseAnswer
-  answered (Written.no-form n) = simp (not-found form n)
-  answered (Written.no-parts i n) = simp (is-found form i .1, unfit (fitting lengths (length octets)) refl n)
-    where
-      unfit : (t : Bool) → fitting lengths (length octets) ≡ t → (Parts lengths octets → ⊥) → t ≡ false
-      unfit true e n = absurd (n (parts-of lengths octets e))
-      unfit false e n = refl
-  answered (Written.no-room i p h) =
-      simp (is-found form i .1, of-parts lengths octets p, lt-leb (length (caseWith form lengths octets)) room (omega (arith, size-is p)))
-  answered (Written.done i p h) =
-      simp (is-found form i .1, of-parts lengths octets p, le-leb (length (caseWith form lengths octets)) room (omega (arith, size-is p)))
+unfit : (lengths octets : List ℕ) → (Parts lengths octets → ⊥) → fitting lengths (length octets) ≡ false
+unfit lengths octets n = go (fitting lengths (length octets)) refl
+  where
+    go : (t : Bool) → fitting lengths (length octets) ≡ t → t ≡ false
+    go true e = absurd (n (parts-of lengths octets e))
+    go false e = refl
 
-  by-room : IsForm form → Parts lengths octets → (t : Bool) → leb (length (caseWith form lengths octets)) room ≡ t → (r : ℕ) × Written form lengths octets room r
-  by-room i p true e =
-      (0, Written.done i p (omega (arith, leb-true (length (caseWith form lengths octets)) room e, size-is p)))
-  by-room i p false e =
-      (9, Written.no-room i p (omega (arith, leb-false (length (caseWith form lengths octets)) room e, size-is p)))
+module _ (form : ℕ) (lengths octets case : List ℕ) where
+  abbrev Row : Answer → List ℕ → Type 0
+  Row = WriteCaseTable form lengths octets case
 
-  by-parts : IsForm form → (t : Bool) → fitting lengths (length octets) ≡ t → (r : ℕ) × Written form lengths octets room r
+  of-row : {a : Answer} {after : List ℕ} → Row a after → (writeCaseAnswer form lengths octets (length case) ≡ a) × (writeCaseOctets form lengths octets case ≡ after)
+  unfolding writeCaseAnswer writeCaseOctets
+  of-row (WriteCaseTable.no-form n) = let q = not-found form n in (simp q, simp q)
+  of-row (WriteCaseTable.no-parts i n) =
+      let q = is-found form i .1 in let u = unfit lengths octets n in (simp (q, u), simp (q, u))
+  of-row (WriteCaseTable.short-room i p h) =
+      let q = is-found form i .1 in
+      let o = of-parts lengths octets p in
+      let l = lt-leb (length (caseWith form lengths octets)) (length case) h in
+      (simp (q, o, l), simp (q, o, l))
+  of-row (WriteCaseTable.written i p h) =
+      let q = is-found form i .1 in
+      let o = of-parts lengths octets p in
+      let l = le-leb (length (caseWith form lengths octets)) (length case) h in
+      (simp (q, o, l), simp (q, o, l))
+
+  by-room : IsForm form → Parts lengths octets → (t : Bool) → leb (length (caseWith form lengths octets)) (length case) ≡ t
+      → Row (pick t (answer 0 0 (length octets) (length (caseWith form lengths octets))) (answer 9 0 0 (length (caseWith form lengths octets)))) (pick t (over case (caseWith form lengths octets)) case)
+  by-room i p true e = WriteCaseTable.written i p (leb-true _ _ e)
+  by-room i p false e = WriteCaseTable.short-room i p (leb-false _ _ e)
+
+  by-parts : IsForm form → (t : Bool) → fitting lengths (length octets) ≡ t
+      → Row (pick t (writtenAnswer (length octets) (length case) (caseWith form lengths octets)) (bare 15)) (pick t (pick (leb (length (caseWith form lengths octets)) (length case)) (over case (caseWith form lengths octets)) case) case)
   by-parts i true e =
-      by-room i (parts-of lengths octets e) (leb (length (caseWith form lengths octets)) room) refl
+      by-room i (parts-of lengths octets e) (leb (length (caseWith form lengths octets)) (length case)) refl
   by-parts i false e =
-      (15, Written.no-parts i (λ p. let w = of-parts lengths octets p in let z : _≡_ {A = ℕ} 0 1 = cc in omega arith))
+      WriteCaseTable.no-parts i (λ p. let w = of-parts lengths octets p in let z : _≡_ {A = ℕ} 0 1 = cc in omega arith)
 
-  by-form : (y : FormFound) → formOf form ≡ y → (r : ℕ) × Written form lengths octets room r
+  by-form : (y : FormFound) → formOf form ≡ y
+      → Row (inForm y (bare 11) (λ f. pick (fitting lengths (length octets)) (writtenAnswer (length octets) (length case) (caseWith form lengths octets)) (bare 15))) (inForm y case (λ f. pick (fitting lengths (length octets)) (pick (leb (length (caseWith form lengths octets)) (length case)) (over case (caseWith form lengths octets)) case) case))
   by-form (Is f) q = by-parts (found-is form f q) (fitting lengths (length octets)) refl
-  by-form Nothing q = (11, Written.no-form (nothing-is form q))
+  by-form Nothing q = WriteCaseTable.no-form (nothing-is form q)
 
-  -- "11, then 15 .., then 9": each exactly when, and else accepted
-  pub written-exactly : (r : ℕ) → (writeCaseAnswer form lengths octets room .number ≡ r) ↔ Written form lengths octets room r
-  written-exactly r = (forth, answered)
-    where
-      forth : writeCaseAnswer form lengths octets room .number ≡ r → Written form lengths octets room r
-      forth q =
-          let w = by-form (formOf form) refl in
-          subst (Written form lengths octets room) (sym (answered (w .1)) ∙ q) (w .1)
+  -- "11, then 15 .., then 9", and else accepted: the four numbers, and what the lent octets hold after, are exactly those of the table
+  pub write-case-exactly : (a : Answer) (after : List ℕ) → ((writeCaseAnswer form lengths octets (length case) ≡ a) × (writeCaseOctets form lengths octets case ≡ after)) ↔ WriteCaseTable form lengths octets case a after
+  unfolding writeCaseAnswer writeCaseOctets
+  write-case-exactly a after = (λ e. subst₂ Row (e .0) (e .1) (by-form (formOf form) refl), of-row)
 
 -- ---- what is written
 
@@ -130,23 +145,22 @@ module _ (form : ℕ) (lengths octets : List ℕ) (i : IsForm form) (p : Parts l
   pub written-octets : joined (pagesOf (caseWith form lengths octets)) ≡ octets
   written-octets = ap joined written-pages ∙ joined-cut lengths octets (p .sum)
 
-  -- "an accepted writing has element 0, and its place is the number of page octets"; what is written is that case, and the rest stays
-  pub written-answers : (case : List ℕ) → length (caseWith form lengths octets) ≤ length case
-      → (writeCaseAnswer form lengths octets (length case) ≡ answer 0 0 (length octets) (length (caseWith form lengths octets))) × (writeCaseOctets form lengths octets case ≡ over case (caseWith form lengths octets))
-  unfolding writeCaseAnswer writeCaseOctets
-  written-answers case h =
-      let f = is-found form i .1 in
-      let o = of-parts lengths octets p in
-      let l = le-leb (length (caseWith form lengths octets)) (length case) h in
-      (simp (f, o, l), simp (f, o, l))
-
--- a refused writing leaves the lent octets as they were
+-- "A refusal writes nothing to any buffer."
 pub refused-keeps : (form : ℕ) (lengths octets case : List ℕ) → (writeCaseAnswer form lengths octets (length case) .number ≡ 0 → ⊥) → writeCaseOctets form lengths octets case ≡ case
-unfolding writeCaseAnswer writeCaseOctets
-refused-keeps form lengths octets case = by (formOf form) (fitting lengths (length octets)) (leb (length (caseWith form lengths octets)) (length case))
+refused-keeps form lengths octets case = by (write-case-exactly form lengths octets case _ _ .0 (refl, refl))
   where
-    by : (y : FormFound) (t u : Bool) → (inForm y (bare 11) (λ f. pick t (pick u (answer 0 0 (length octets) (length (caseWith form lengths octets))) (answer 9 0 0 (length (caseWith form lengths octets)))) (bare 15)) .number ≡ 0 → ⊥) → inForm y case (λ f. pick t (pick u (over case (caseWith form lengths octets)) case) case) ≡ case
-    by (Is f) true true n = absurd (n refl)
-    by (Is f) true false n = refl
-    by (Is f) false u n = refl
-    by Nothing t u n = refl
+    by : {a : Answer} {after : List ℕ} → WriteCaseTable form lengths octets case a after → (a .number ≡ 0 → ⊥) → after ≡ case
+    by (WriteCaseTable.no-form n) h = refl
+    by (WriteCaseTable.no-parts i n) h = refl
+    by (WriteCaseTable.short-room i p l) h = refl
+    by (WriteCaseTable.written i p l) h = absurd (h refl)
+
+-- "Entries past the count stay."
+pub past-count : (form : ℕ) (lengths octets case : List ℕ) (k d : ℕ) → writeCaseAnswer form lengths octets (length case) .count ≤ k → getD (writeCaseOctets form lengths octets case) k d ≡ getD case k d
+past-count form lengths octets case k d = by (write-case-exactly form lengths octets case _ _ .0 (refl, refl))
+  where
+    by : {a : Answer} {after : List ℕ} → WriteCaseTable form lengths octets case a after → a .count ≤ k → getD after k d ≡ getD case k d
+    by (WriteCaseTable.no-form n) h = refl
+    by (WriteCaseTable.no-parts i n) h = refl
+    by (WriteCaseTable.short-room i p l) h = refl
+    by (WriteCaseTable.written i p l) h = over-past case (caseWith form lengths octets) k d h

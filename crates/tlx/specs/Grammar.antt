@@ -8,16 +8,12 @@ use Rattle.run.specs.Grammar.{RunOf}
 use Rattle.alphabet.specs.declared.Form.{Form}
 use Rattle.element.specs.declared.Element.{Element}
 use Rattle.element.specs.Grammar.{Spells}
+use Rattle.text.specs.Table.{IsForm, NoForm}
 use Rattle.tlx.specs.Layout.{mark, versionOf, formOctet, pageCount, version-1, lengthsIn, total, sizeOf, caseOf}
 
 -- every entry is an octet
 abbrev pub Octets : List ℕ → Type 0
 Octets s = (i : ℕ) → getD s i 0 < 0x100
-
--- forms 1 to 3
-pub record IsForm (form : ℕ) : Type 0 where
-  pub from-1 : 1 ≤ form
-  pub to-3 : form ≤ 3
 
 -- the octets are the case of these pages: at most 256, each of at most 65,535 octets
 pub record CaseOf (octets : List ℕ) (form : ℕ) (pages : List (List ℕ)) : Type 0 where
@@ -43,7 +39,7 @@ pub record Formed (case : List ℕ) : Type 0 where
   pub before : Versioned case
   pub form : IsForm (formOctet case)
 
--- "8 + 2 x pages + the lengths"
+-- "8 + 2 x pages + the lengths"; entries that the case's end cuts off say 0, so that the size is then wrong
 abbrev pub sizeSaid : List ℕ → ℕ
 sizeSaid case = sizeOf version-1 (pageCount case) (lengthsIn version-1 (pageCount case) (drop 8 case))
 
@@ -55,7 +51,7 @@ pub data Turned (case : List ℕ) : ℕ → Type 0 where
   -- 14: "case version not 1"
   other-version : Marked case → (versionOf case ≡ 1 → ⊥) → Turned case 14
   -- 11: "form not 1 to 3"
-  no-form : Versioned case → (IsForm (formOctet case) → ⊥) → Turned case 11
+  no-form : Versioned case → NoForm (formOctet case) → Turned case 11
   -- 15: "over 256 pages, or size wrong"
   over-256 : Formed case → 0x100 < pageCount case → Turned case 15
   wrong-size : Formed case → pageCount case ≤ 0x100 → (length case ≡ sizeSaid case → ⊥) → Turned case 15
@@ -78,10 +74,3 @@ pub record Parts (lengths octets : List ℕ) : Type 0 where
   pub few : length lengths ≤ 0x100
   pub short : (n : ℕ) → List·Memᴰ n lengths → n ≤ 0xFFFF
   pub sum : total lengths ≡ length octets
-
--- which number a writing has: 11, then 15, then 9
-pub data Written (form : ℕ) (lengths octets : List ℕ) (room : ℕ) : ℕ → Type 0 where
-  no-form : (IsForm form → ⊥) → Written form lengths octets room 11
-  no-parts : IsForm form → (Parts lengths octets → ⊥) → Written form lengths octets room 15
-  no-room : IsForm form → Parts lengths octets → room < sizeOf version-1 (length lengths) lengths → Written form lengths octets room 9
-  done : IsForm form → Parts lengths octets → sizeOf version-1 (length lengths) lengths ≤ room → Written form lengths octets room 0

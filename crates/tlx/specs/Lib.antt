@@ -3,3 +3,4 @@ pub mod Check
 pub mod Grammar
 pub mod Reading
 pub mod Writing
+pub mod Table

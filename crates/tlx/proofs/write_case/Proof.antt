@@ -3,7 +3,7 @@ use native.Mathlib.Omega.{arith}
 use borrow.Author.Tests.{not-true, not-false}
 use Rattle.run.proofs.Puts.{put-length}
 use Rattle.tlx.proofs.Parts.{fits, fits-small, table-length}
-use Rattle.tlx.proofs.Checked.{found-is}
+use Rattle.tlx.proofs.Checked.{found-is, form-small}
 use Rattle.tlx.proofs.Writes.{no-form, unfit, short, written}
 use borrow.Author.Needs.{needs}
 use Rattle.tlx.proofs.write_case.Statement.{statement}
@@ -46,7 +46,7 @@ returns-3 : tie.Need-returns-3
 returns-3 c = short _ (c .before .before .before .before .before .before .before .before .before .args .lengths .now) (c .before .before .before .before .before .before .before .before .before .args .octets .now) (c .before .before .before .before .before .before .before .before .before .args .case .now) _ (sym (c .before .before .before .before .before .form-of .ensures) ∙ c .before .before .before .enum-told .given .1) (sym (c .before .before .is-fitting .ensures) ∙ not-false _ (c .before .if1 .left)) (c .if2 .taken)
 
 put-header-requires : tie.Need-put-header-requires
-put-header-requires c κs = (found-is _ _ (sym (c .before .before .before .before .before .before .form-of .ensures) ∙ c .before .before .before .before .enum-told .given .1) .to-3, fits _ _ (sym (c .before .before .before .is-fitting .ensures) ∙ not-false _ (c .before .before .if1 .left)) .few, omega (arith, c .before .if2 .left))
+put-header-requires c κs = (form-small _ (found-is _ _ (sym (c .before .before .before .before .before .before .form-of .ensures) ∙ c .before .before .before .before .enum-told .given .1)), fits _ _ (sym (c .before .before .before .is-fitting .ensures) ∙ not-false _ (c .before .before .if1 .left)) .few, omega (arith, c .before .if2 .left))
 
 put-table-requires : tie.Need-put-table-requires
 put-table-requires c κs = (omega (arith, c .before .before .before .before .before .if2 .left, c .before .before .before .put-header .ensures .place, put-length (c .before .before .before .put-header .ensures)), fits _ _ (sym (c .before .before .before .before .before .before .before .is-fitting .ensures) ∙ not-false _ (c .before .before .before .before .before .before .if1 .left)) .short)
