@@ -57,7 +57,7 @@ fn say_pages(case: &[u8]) {
     say_each(case, pages);
 }
 
-// Room for the words of the largest case: no octet gives more than one.
+// Room for the words of the largest case: `tlx` proves that no octet gives more than one, so 9 is never answered.
 fn room() -> [u32; 65536]
     ensures { λ r. ⌜ 65536 ≡ length r ⌝ }
 {

@@ -31,6 +31,7 @@ use Rattle.element.specs.Reading.{headIn, stepAnswer}
 use Rattle.element.specs.Spelling.{CanonicalElement, Held, Writes, spellHead}
 use Rattle.element.proofs.Reader.{reads}
 use Rattle.element.proofs.Places.{reading-number}
+use Rattle.element.proofs.Sizes.{words-few}
 use Rattle.element.proofs.Writer.{canonical-spells, one-spelling, read-held, writer-reads, writer-refuses-exactly}
 use Rattle.text.specs.Outcomes.{Respells, respellHead, readIn, writeIn, convertIn}
 use Rattle.text.specs.Answers.{limit, inForm, within-limit, same, measureAnswer, readAnswer, readWords, writeAnswer, writeText, convertAnswer, convertText, loneStep}
@@ -190,6 +191,17 @@ read-element-12 form f q text at = (forth (lone-exactly form text at _ .0 refl),
     forth (LoneTable.none-left q l p) e = absurd (omega arith)
     forth (LoneTable.element q l b) e = absurd (omega arith)
     forth (LoneTable.refused {f} q l h) e = absurd (omega (arith, reading-number f h .1))
+
+-- No octet gives more than one word: room for as many words as the text has octets is never short.
+pub words-fit : {f : Form} {text : List ℕ} {ps : List (List ℕ)} {es : List Element} → Run (Spells f) text ps es → length (given wordsOf es) ≤ length text
+unfolding given
+words-fit done = omega arith
+words-fit (more {p} {s} {e = e} {es = es} sp r) = omega (arith, words-fit r, words-few sp, length-append p s, length-append (wordsOf e) (given wordsOf es))
+
+pub room-enough : (form : ℕ) (f : Form) → formOf form ≡ Is f → (text words : List ℕ) → length text ≤ length words → readAnswer form text (length words) .number ≡ 9 → ⊥
+room-enough form f q text words h e =
+    let t = read-tells form f q text words .is-9 e in
+    omega (arith, t .3, words-fit (t .2 .1))
 
 -- Each public function's promise allows one answer. The definitions are those of the functions' `ensures`.
 pub one-answer : (form target : ℕ) (text words out : List ℕ) (at : ℕ)

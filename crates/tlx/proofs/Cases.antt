@@ -6,7 +6,7 @@ use mathlib.Core.Logic.{_↔_}
 use mathlib.Core.List.{List, [], _∷_, _++_}
 use native.Mathlib.Nat.{add-zero}
 use native.Mathlib.Omega.{arith}
-use lib.ListN.{length, getD}
+use lib.ListN.{length, getD, length-append}
 use borrow.Author.Tests.{le-leb, lt-leb, lt-ltb, le-ltb, leb-true, leb-false}
 use mathlib.Core.Bool.{Bool, true, false}
 use lib.Dec.{leb, lit<}
@@ -29,6 +29,7 @@ use Rattle.text.proofs.Demands as text
 use Rattle.tlx.specs.declared.Header.{Header}
 use Rattle.tlx.specs.declared.Header.the-variants.{Refused, Pages}
 use Rattle.tlx.specs.declared.Page.the-variants.{Is as IsPage, NoPage}
+use Rattle.tlx.specs.Layout.{header, big16}
 use Rattle.tlx.specs.Check.{headerOf}
 use Rattle.tlx.specs.Grammar.{Octets, CaseOf, Turned, AllSpelt, none, more}
 use Rattle.tlx.specs.Table.{Faulty, AcceptedCase, RefusedCase, of-case, of-page, CaseTable, CaseTells}
@@ -304,3 +305,18 @@ no-page-answers case form pages c k h = simp (case-header case form pages c, le-
 pub turned-page-answers : (case : List ℕ) (r k : ℕ) → Turned case r → pageAnswer case k ≡ IsPage (bare r)
 unfolding pageAnswer
 turned-page-answers case r k t = simp (turned-exactly case r .1 t)
+
+-- ---- room for as many words as the case has octets is never short
+
+words-fit : {f : Form} {pages : List (List ℕ)} {es : List Element} → AllSpelt f pages es → length (given wordsOf es) ≤ length (given (λ (page : List ℕ). page) pages)
+unfolding given
+words-fit none = omega arith
+words-fit (more {page} {pages} {es} {fs} r s) =
+    omega (arith, words-fit s, text.words-fit (r .1), ap length (answers.given-append wordsOf es fs), length-append (given wordsOf es) (given wordsOf fs), length-append page (given (λ (page : List ℕ). page) pages))
+
+pub room-enough : (case : List ℕ) → Octets case → (words : List ℕ) → length case ≤ length words → readCaseAnswer case (length words) .number ≡ 9 → ⊥
+room-enough case octets words h e =
+    let t = read-case-tells case octets words .is-9 e in
+    let a = t .1 in
+    let l = ap length (a .laid .is) ∙ length-append (header 1 (a .form) (length (a .pages))) (given (λ (page : List ℕ). big16 (length page)) (a .pages) ++ given (λ (page : List ℕ). page) (a .pages)) in
+    omega (arith, t .2, words-fit (a .spelt), l, length-append (given (λ (page : List ℕ). big16 (length page)) (a .pages)) (given (λ (page : List ℕ). page) (a .pages)))
