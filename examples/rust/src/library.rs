@@ -1,0 +1,81 @@
+//! The library's functions as `include/oakentwirl.h` declares them. Nothing checks these declarations against that file.
+
+/// The four numbers of an answer.
+#[repr(C)]
+pub struct Answer {
+    number: usize,
+    element: usize,
+    place: usize,
+    count: usize,
+}
+
+/// The same, and the page that is refused.
+#[repr(C)]
+pub struct CaseAnswer {
+    pub number: usize,
+    pub element: usize,
+    pub place: usize,
+    pub count: usize,
+    pub page: usize,
+}
+
+impl From<Answer> for CaseAnswer {
+    fn from(answer: Answer) -> Self {
+        let Answer {
+            number,
+            element,
+            place,
+            count,
+        } = answer;
+        CaseAnswer {
+            number,
+            element,
+            place,
+            count,
+            page: 0,
+        }
+    }
+}
+
+/// `OAK_SHORT_ROOM`.
+pub const SHORT_ROOM: usize = 9;
+
+extern "C" {
+    pub fn oak_read(
+        form: u32,
+        text: *const u8,
+        text_len: usize,
+        words: *mut u32,
+        words_len: usize,
+    ) -> Answer;
+    pub fn oak_write(
+        form: u32,
+        words: *const u32,
+        words_len: usize,
+        text: *mut u8,
+        text_len: usize,
+    ) -> Answer;
+    pub fn oak_convert(
+        source: u32,
+        target: u32,
+        text: *const u8,
+        text_len: usize,
+        out: *mut u8,
+        out_len: usize,
+    ) -> Answer;
+    pub fn oak_case_read(
+        tlx: *const u8,
+        tlx_len: usize,
+        words: *mut u32,
+        words_len: usize,
+    ) -> CaseAnswer;
+    pub fn oak_case_write(
+        form: u32,
+        lengths: *const u32,
+        pages: usize,
+        octets: *const u8,
+        octets_len: usize,
+        tlx: *mut u8,
+        tlx_len: usize,
+    ) -> Answer;
+}

@@ -1,0 +1,155 @@
+/*
+ * Asks the library what standard input says, and writes its answers, with every lent buffer whole, to standard output.
+ *
+ *     driver middle|start|end
+ *
+ * The argument says where each buffer is laid: in the middle of readable memory, an empty one as a null pointer; right behind an
+ * unreadable page; or right before one. So one octet too far to that side ends the run. The driver judges nothing: tests/library.py,
+ * which has the form of questions and answers too, compares.
+ */
+#include <stdint.h>
+#include <stdio.h>
+#include <stdlib.h>
+#include <string.h>
+#include <sys/mman.h>
+
+#include "oakentwirl.h"
+
+/* Room for one word more than a text may have, in steps that are whole pages on every machine. */
+#define STEP ((size_t)65536)
+#define ROOM (66 * STEP)
+
+enum ask { READ = 1, WRITE, CONVERT, CASE_READ, CASE_WRITE, LOOK_TOO_FAR, PUT_TOO_FAR };
+enum side { MIDDLE, START, END };
+
+struct question {
+    uint32_t ask, form, target;
+    uint32_t first;  /* octets or words of the text, or page lengths */
+    uint32_t second; /* octets of the pages that a case is written from */
+    uint32_t room;   /* entries of the buffer that is written */
+};
+
+struct buffer {
+    void *start;
+    size_t octets;
+};
+
+static void die(const char *why)
+{
+    fprintf(stderr, "driver: %s\n", why);
+    exit(2);
+}
+
+/* Readable memory with an unreadable step on either side. */
+static uint8_t *arena(void)
+{
+    uint8_t *memory = mmap(NULL, ROOM + 2 * STEP, PROT_NONE, MAP_PRIVATE | MAP_ANONYMOUS, -1, 0);
+    if (memory == MAP_FAILED || mprotect(memory + STEP, ROOM, PROT_READ | PROT_WRITE) != 0)
+        die("no memory");
+    return memory + STEP;
+}
+
+/* A buffer of that many entries; in the middle, octets are laid at an odd address. */
+static struct buffer lay(uint8_t *memory, enum side side, size_t entries, size_t width)
+{
+    size_t octets = entries * width;
+    if (octets > ROOM - STEP)
+        die("a buffer is too long");
+    if (side == START)
+        return (struct buffer){memory, octets};
+    if (side == END)
+        return (struct buffer){memory + ROOM - octets, octets};
+    return (struct buffer){octets == 0 ? NULL : memory + STEP / 2 + width, octets};
+}
+
+static void take(struct buffer b)
+{
+    if (b.octets != 0 && fread(b.start, b.octets, 1, stdin) != 1)
+        die("a question is cut short");
+}
+
+static void give(struct buffer b)
+{
+    if (b.octets != 0 && fwrite(b.start, b.octets, 1, stdout) != 1)
+        die("the answers cannot be written");
+}
+
+/* No two entries near each other alike, so that one that was written, or moved, shows. */
+static void fill(struct buffer b)
+{
+    uint8_t *octets = b.start;
+    for (size_t i = 0; i < b.octets; i++)
+        octets[i] = (uint8_t)(37 * i + 11);
+}
+
+/* Touches the octet beside the buffer, which must end the run. */
+static void too_far(enum ask ask, enum side side, struct buffer b)
+{
+    volatile uint8_t *octets = b.start;
+    ptrdiff_t beside = side == START ? -1 : (ptrdiff_t)b.octets;
+    if (ask == LOOK_TOO_FAR)
+        (void)octets[beside];
+    else
+        octets[beside] = 0;
+}
+
+static struct oak_case_answer with_page_0(struct oak_answer a)
+{
+    return (struct oak_case_answer){a.number, a.element, a.place, a.count, 0};
+}
+
+static struct oak_case_answer asked(const struct question *q, enum side side, struct buffer in, struct buffer more, struct buffer out)
+{
+    switch (q->ask) {
+    case READ:
+        return with_page_0(oak_read(q->form, in.start, q->first, out.start, q->room));
+    case WRITE:
+        return with_page_0(oak_write(q->form, in.start, q->first, out.start, q->room));
+    case CONVERT:
+        return with_page_0(oak_convert(q->form, q->target, in.start, q->first, out.start, q->room));
+    case CASE_READ:
+        return oak_case_read(in.start, q->first, out.start, q->room);
+    case CASE_WRITE:
+        return with_page_0(oak_case_write(q->form, in.start, q->first, more.start, q->second, out.start, q->room));
+    case LOOK_TOO_FAR:
+    case PUT_TOO_FAR:
+        too_far(q->ask, side, out);
+        break;
+    }
+    die("no such question");
+    abort();
+}
+
+static enum side side_of(int count, char **arguments)
+{
+    static const char *const names[] = {"middle", "start", "end"};
+    for (int side = MIDDLE; count == 2 && side <= END; side++)
+        if (strcmp(arguments[1], names[side]) == 0)
+            return (enum side)side;
+    die("middle, start or end");
+    abort();
+}
+
+int main(int count, char **arguments)
+{
+    enum side side = side_of(count, arguments);
+    uint8_t *ins = arena(), *mores = arena(), *outs = arena();
+    struct question q;
+
+    while (fread(&q, sizeof q, 1, stdin) == 1) {
+        size_t in_width = q.ask == WRITE || q.ask == CASE_WRITE ? sizeof(uint32_t) : 1;
+        size_t out_width = q.ask == READ || q.ask == CASE_READ ? sizeof(uint32_t) : 1;
+        struct buffer in = lay(ins, side, q.first, in_width);
+        struct buffer more = lay(mores, side, q.second, 1);
+        struct buffer out = lay(outs, side, q.room, out_width);
+        take(in);
+        take(more);
+        fill(out);
+        struct oak_case_answer a = asked(&q, side, in, more, out);
+        give((struct buffer){&a, sizeof a});
+        give(in);
+        give(more);
+        give(out);
+    }
+    return ferror(stdin) || fflush(stdout) != 0 ? 2 : 0;
+}

@@ -1,0 +1,242 @@
+"""The library for C, asked through its header by tests/driver.c, beside the model of document 01; and the examples that call it.
+
+    library.py FOLDER [EMULATOR ..]     for tests/run: FOLDER has the built programs, which run under the emulator if one is named
+
+`compare` asks every question with the buffers laid in three ways, and says how many answers are the model's: all numbers, and every
+octet of each lent buffer after the call, the ones that are only read too. Questions are all texts of up to two octets, read and
+converted; the vectors of make_text_vectors.py and make_tlx_vectors.py; random texts, words and cases, whole and damaged; and the
+longest texts. A question is six 32-bit numbers (what is asked, form, target, entries of the first buffer, octets of the second, room)
+and the two buffers; an answer is five 64-bit numbers and all three buffers. Standard library only.
+"""
+from __future__ import annotations
+
+import itertools
+import pathlib
+import random
+import signal
+import struct
+import subprocess
+import sys
+from typing import Iterable, Iterator, NamedTuple, Sequence
+
+sys.dont_write_bytecode = True
+import examples
+import make_text_vectors as texts
+import make_tlx_vectors as cases
+import model
+
+READ, WRITE, CONVERT, CASE_READ, CASE_WRITE, LOOK_TOO_FAR, PUT_TOO_FAR = range(1, 8)
+OCTET, WORD = 1, 4
+SIDES = ("middle", "start", "end")
+SEED = 61
+RANDOM_TEXTS = 2_500  # of each form, before damage
+RANDOM_CASES = 400
+REFUSED_ROOM = 3
+
+# What the driver fills a buffer with: it comes again after 256 octets.
+FILL = bytes((37 * place + 11) % 256 for place in range(256))
+
+
+class Asked(NamedTuple):
+    """A question as the driver reads it, and the answer as it should write it."""
+
+    question: bytes
+    answer: bytes
+
+
+def words_octets(words: Sequence[int]) -> bytes:
+    return struct.pack(f"<{len(words)}I", *words)
+
+
+def left(put: bytes, size: int) -> bytes:
+    """A buffer of that many octets after `put` was written to its start."""
+    return put + (FILL * (size // 256 + 1))[len(put) : size]
+
+
+def asked(ask: int, forms: Sequence[int], first: tuple[int, bytes], second: bytes, room: int, answer: Sequence[int], after: bytes) -> Asked:
+    """`first` is its number of entries and its octets; `after` is what the written buffer holds."""
+    form, target = (*forms, 0, 0)[:2]
+    numbers = (*answer, 0)[:5]
+    question = struct.pack("<6I", ask, form, target, first[0], len(second), room) + first[1] + second
+    return Asked(question, struct.pack("<5Q", *numbers) + first[1] + second + after)
+
+
+def reading(form: int, text: bytes, room: int) -> Asked:
+    answer, words = model.read_text(form, text, room)
+    return asked(READ, [form], (len(text), text), b"", room, answer, left(words_octets(words), WORD * room))
+
+
+def writing(form: int, words: Sequence[int], room: int) -> Asked:
+    answer, octets = model.write_text(form, words, room)
+    return asked(WRITE, [form], (len(words), words_octets(words)), b"", room, answer, left(bytes(octets), room))
+
+
+def converting(source: int, target: int, text: bytes, room: int) -> Asked:
+    answer, octets = model.convert_text(source, target, text, room)
+    return asked(CONVERT, [source, target], (len(text), text), b"", room, answer, left(bytes(octets), room))
+
+
+def case_reading(case: bytes, room: int) -> Asked:
+    answer, words = model.read_case(case, room)
+    return asked(CASE_READ, [], (len(case), case), b"", room, answer, left(words_octets(words), WORD * room))
+
+
+def case_writing(form: int, lengths: Sequence[int], octets: bytes, room: int) -> Asked:
+    answer, case = model.write_case(form, lengths, octets, room)
+    return asked(CASE_WRITE, [form], (len(lengths), words_octets(lengths)), octets, room, answer, left(bytes(case), room))
+
+
+def short() -> Iterator[Asked]:
+    """All texts of up to two octets, read and converted in each way, with room for whatever they give."""
+    for size in range(3):
+        for octets in itertools.product(range(256), repeat=size):
+            text = bytes(octets)
+            for form in model.FORMS:
+                yield reading(form, text, size)
+                for target in model.FORMS:
+                    yield converting(form, target, text, 2 * size)
+
+
+def vectors() -> Iterator[Asked]:
+    for form in model.FORMS:
+        yield from (reading(q.forms[0], bytes(q.entries), q.room) for q in texts.readings(form))
+        yield from (writing(q.forms[0], q.entries, q.room) for q in texts.writings(form))
+        yield from (converting(*q.forms, bytes(q.entries), q.room) for q in texts.conversions(form))
+        yield from (case_reading(bytes(q.case), q.room) for q in cases.readings(form))
+        yield from (case_writing(q.form, q.lengths, bytes(q.octets), q.room) for q in cases.writings(form))
+    yield from (case_reading(bytes(q.case), q.room) for q in cases.long_readings())
+    parts = itertools.chain(cases.refused_writings(), cases.long_writings())
+    yield from (case_writing(q.form, q.lengths, bytes(q.octets), q.room) for q in parts)
+
+
+def room_near(outcome: tuple, chance: random.Random) -> int:
+    """Just enough for the outcome, one short, or some over; for a refusal, some room."""
+    answer, entries = outcome
+    enough = len(entries) if answer.number == 0 else REFUSED_ROOM
+    return max(0, enough + chance.choice([0, 0, 0, -1, 1, 5]))
+
+
+def random_texts(form: int, chance: random.Random) -> Iterator[bytes]:
+    for text in texts.short_texts(form, RANDOM_TEXTS, chance):
+        yield bytes(text)
+        yield from map(bytes, texts.damaged_texts([text], chance))
+        yield chance.randbytes(chance.randrange(3, 12))
+
+
+def random_words(form: int, chance: random.Random) -> Iterator[Sequence[int]]:
+    for words in texts.words_of_all(form, texts.short_texts(form, RANDOM_TEXTS, chance)):
+        yield words
+        yield from texts.damaged_words([words], chance)
+
+
+def random_cases(form: int, chance: random.Random) -> Iterator[bytes]:
+    for _ in range(RANDOM_CASES):
+        case = cases.case_of(form, cases.some_pages(form, chance.randrange(6), chance))
+        yield bytes(case)
+        yield from map(bytes, texts.damaged_texts([case], chance))
+
+
+def random_parts(chance: random.Random) -> Iterator[tuple[Sequence[int], bytes]]:
+    """Lengths of a few pages, mostly with as many octets."""
+    for _ in range(RANDOM_CASES):
+        lengths = [chance.randrange(20) for _ in range(chance.randrange(6))]
+        yield lengths, chance.randbytes(max(0, sum(lengths) + chance.choice([0, 0, 0, 0, 1, -1])))
+
+
+def drawn() -> Iterator[Asked]:
+    chance = random.Random(SEED)
+    for form in model.FORMS:
+        for text in random_texts(form, chance):
+            yield reading(form, text, room_near(model.read_text(form, text), chance))
+            target = chance.choice(model.FORMS)
+            yield converting(form, target, text, room_near(model.convert_text(form, target, text), chance))
+        for words in random_words(form, chance):
+            yield writing(form, words, room_near(model.write_text(form, words), chance))
+        for case in random_cases(form, chance):
+            yield case_reading(case, room_near(model.read_case(case), chance))
+        for lengths, octets in random_parts(chance):
+            yield case_writing(form, lengths, octets, room_near(model.write_case(form, lengths, octets), chance))
+
+
+def longest() -> Iterator[Asked]:
+    """The longest input, and one entry more."""
+    for size in (model.MOST_ENTRIES, model.MOST_ENTRIES + 1):
+        yield reading(1, b"A" * size, size)
+        yield converting(2, 3, b"\n" * size, size)
+        yield writing(3, [0x41] * size, size)
+
+
+def written(asked: Iterable[Asked], folder: pathlib.Path) -> tuple[list[int], list[int]]:
+    """Writes the questions and their answers to two files, and says where each ends in them."""
+    ends: tuple[list[int], list[int]] = ([0], [0])
+    with open(folder / "questions", "wb") as questions, open(folder / "expected", "wb") as expected:
+        for question, answer in asked:
+            ends[0].append(ends[0][-1] + questions.write(question))
+            ends[1].append(ends[1][-1] + expected.write(answer))
+    return ends
+
+
+def wrong(expected: bytes, answers: bytes, ends: list[int]) -> list[int]:
+    """Which of the questions have another answer, or none."""
+    if expected == answers:
+        return []
+    return [i for i, (start, end) in enumerate(zip(ends, ends[1:])) if expected[start:end] != answers[start:end]]
+
+
+def tell(side: str, which: int, folder: pathlib.Path, ends: tuple[list[int], list[int]]) -> None:
+    """Says of a wrong answer what was asked, and both answers."""
+    for name, at in [("questions", ends[0]), ("expected", ends[1]), ("answers", ends[1])]:
+        with open(folder / name, "rb") as file:
+            file.seek(at[which])
+            print(f"  {side} {name}: {file.read(min(at[which + 1] - at[which], 200)).hex(' ', 4)}")
+
+
+def driven(command: Sequence[str], folder: pathlib.Path) -> int:
+    """Runs the driver on the questions, and gives its exit status."""
+    with open(folder / "questions", "rb") as questions, open(folder / "answers", "wb") as answers:
+        return subprocess.run(command, stdin=questions, stdout=answers, check=False).returncode
+
+
+def compare(driver: Sequence[str], folder: pathlib.Path) -> tuple[int, int]:
+    """How many answers of the library are the model's, and how many are not."""
+    ends = written(itertools.chain(short(), vectors(), drawn(), longest()), folder)
+    expected = (folder / "expected").read_bytes()
+    count, failed = len(ends[0]) - 1, 0
+    for side in SIDES:
+        status = driven([*driver, side], folder)
+        others = wrong(expected, (folder / "answers").read_bytes(), ends[1])
+        print(f"library beside the model, buffers at the {side} of memory: {count - len(others):,} of {count:,} alike, exit status {status}")
+        for which in others[:3]:
+            tell(side, which, folder, ends)
+        failed += len(others) + (status != 0)
+    return len(SIDES) * count - failed, failed
+
+
+def guarded(driver: Sequence[str]) -> tuple[int, int]:
+    """That one octet too far, read or written, on the side of the unreadable page, ends the run."""
+    passed = failed = 0
+    for side, ask, size in itertools.product(SIDES[1:], (LOOK_TOO_FAR, PUT_TOO_FAR), (0, 1, 4096)):
+        question = struct.pack("<6I", ask, 0, 0, 0, 0, size)
+        run = subprocess.run([*driver, side], input=question, capture_output=True, check=False)
+        if run.returncode == -signal.SIGSEGV:
+            passed += 1
+        else:
+            failed += 1
+            print(f"one octet too far at the {side} did not end the run: exit status {run.returncode}")
+    print(f"one octet too far ends the run: {passed} of {passed + failed}")
+    return passed, failed
+
+
+def main(folder: pathlib.Path, emulator: Sequence[str]) -> int:
+    driver = [*emulator, str(folder / "driver")]
+    results = [guarded(driver), compare(driver, folder)]
+    for name, program in [("C", folder / "convert-c"), ("Rust", folder / "convert-rust")]:
+        if program.exists():
+            results.append(examples.check(name, [*emulator, str(program)], folder))
+    passed, failed = map(sum, zip(*results))
+    print(f"{passed} passed, {failed} failed")
+    return 1 if failed else 0
+
+
+if __name__ == "__main__":
+    sys.exit(main(pathlib.Path(sys.argv[1]), sys.argv[2:]))
