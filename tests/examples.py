@@ -1,7 +1,8 @@
-"""The examples: programs that convert a file from one form to another, run on texts beside the model of document 01.
+"""The examples: programs that convert a file from one form to another, and those of README.md.
 
-`check` runs one program on each text, and compares its exit status, its output file and its message: that of a refusal names the number,
-the octet in hex, its place and its element. Standard library only.
+`check` runs one program on each text beside the model of document 01, and compares its exit status, its output file and its message:
+that of a refusal names the number, the octet in hex, its place and its element. `check_readme` runs the lines of a section of
+README.md as they are written there, and compares what they write with the comments at their end. Standard library only.
 """
 from __future__ import annotations
 
@@ -85,3 +86,22 @@ def check(name: str, program: Sequence[str], folder: pathlib.Path) -> tuple[int,
             print(f"  {name}: {asked.source} to {asked.target}, {asked.text[:40].hex(' ')}: {ending}, and not {wanted}")
     print(f"the example in {name}: {passed} of {passed + failed} files converted or refused as they should be")
     return passed, failed
+
+
+ROOT = pathlib.Path(__file__).resolve().parent.parent
+
+
+def readme_lines(section: str) -> list[str]:
+    """The lines of a section's first block."""
+    after = (ROOT / "README.md").read_text(encoding="utf-8").split(f"\n## {section}\n")[1]
+    return after.split("\n```\n")[1].splitlines()
+
+
+def check_readme(section: str) -> tuple[int, int]:
+    lines = readme_lines(section)
+    wanted = [line[2:] for line in lines if line.startswith("# ")]
+    ended = subprocess.run(["sh", "-e"], input="\n".join(lines).encode(), stdout=subprocess.PIPE, cwd=ROOT, check=False)
+    written = ended.stdout.decode().splitlines()[-len(wanted) :]
+    good = ended.returncode == 0 and written == wanted
+    print(f"README.md, {section}: " + ("as written" if good else f"exit status {ended.returncode}, {written}"))
+    return (1, 0) if good else (0, 1)
