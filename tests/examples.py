@@ -2,11 +2,13 @@
 
 `check` runs one program on each text beside the model of document 01, and compares its exit status, its output file and its message:
 that of a refusal names the number, the octet in hex, its place and its element. `check_readme` runs the lines of a section of
-README.md as they are written there, and compares what they write with the comments at their end. Standard library only.
+README.md as they are written there, and compares what they write with the comments at their end. `check_own` runs a program of tests
+that Rust made. Standard library only.
 """
 from __future__ import annotations
 
 import pathlib
+import re
 import subprocess
 import sys
 from typing import Iterator, NamedTuple, Optional, Sequence
@@ -105,3 +107,11 @@ def check_readme(section: str) -> tuple[int, int]:
     good = ended.returncode == 0 and written == wanted
     print(f"README.md, {section}: " + ("as written" if good else f"exit status {ended.returncode}, {written}"))
     return (1, 0) if good else (0, 1)
+
+
+def check_own(program: Sequence[str]) -> tuple[int, int]:
+    ended = subprocess.run(program, capture_output=True, check=False)
+    result = re.search(r"(\d+) passed; (\d+) failed", ended.stdout.decode())
+    passed, failed = (int(result[1]), int(result[2])) if result else (0, 1)
+    print(f"the Rust crate's own tests: {passed} of {passed + failed}")
+    return passed, failed

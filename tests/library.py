@@ -235,10 +235,10 @@ def main(folder: pathlib.Path, emulator: Sequence[str]) -> int:
     resource.setrlimit(resource.RLIMIT_CORE, (0, 0))
     driver = [*emulator, str(folder / "driver")]
     results = [guarded(driver), compare(driver, folder)]
-    for name, program in [("C", folder / "convert-c"), ("Rust", folder / "convert-rust")]:
-        if program.exists():
-            results.append(examples.check(name, [*emulator, str(program)], folder))
-            results.append(examples.check_readme(f"Use it from {name}"))
+    results += [examples.check("C", [*emulator, str(folder / "convert-c")], folder), examples.check_readme("Use it from C")]
+    if (folder / "convert-rust").exists():
+        results += [examples.check("Rust", [*emulator, str(folder / "convert-rust")], folder)]
+        results += [examples.check_own([*emulator, str(folder / "document-rust")]), examples.check_readme("Use it from Rust")]
     passed, failed = map(sum, zip(*results))
     print(f"{passed} passed, {failed} failed")
     return 1 if failed else 0
