@@ -18,6 +18,7 @@ import signal
 import struct
 import subprocess
 import sys
+import tempfile
 from typing import Iterable, Iterator, NamedTuple, Sequence
 
 sys.dont_write_bytecode = True
@@ -234,7 +235,9 @@ def main(folder: pathlib.Path, emulator: Sequence[str]) -> int:
     # The runs that must end at an unreadable page leave no memory images behind.
     resource.setrlimit(resource.RLIMIT_CORE, (0, 0))
     driver = [*emulator, str(folder / "driver")]
-    results = [guarded(driver), compare(driver, folder)]
+    results = [guarded(driver)]
+    with tempfile.TemporaryDirectory(dir=folder) as large:
+        results += [compare(driver, pathlib.Path(large))]
     results += [examples.check("C", [*emulator, str(folder / "convert-c")], folder), examples.check_readme("Use it from C")]
     if (folder / "convert-rust").exists():
         results += [examples.check("Rust", [*emulator, str(folder / "convert-rust")], folder)]

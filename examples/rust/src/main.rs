@@ -10,6 +10,9 @@ use std::process::ExitCode;
 
 use oakentwirl::{Error, Form};
 
+const USAGE: &str = "usage: convert SOURCE TARGET FILE OUTPUT";
+const NO_FORM: &str = "refused with 11: a form is not 1, 2 or 3";
+
 /// Why the program ends without an output, and its exit status.
 struct Failure(String, u8);
 
@@ -18,10 +21,7 @@ fn form(said: &str) -> Result<Form, Failure> {
         "1" => Ok(Form::Eight),
         "2" => Ok(Form::Seven),
         "3" => Ok(Form::Basic),
-        _ => Err(Failure(
-            "refused with 11: a form is not 1, 2 or 3".into(),
-            1,
-        )),
+        _ => Err(Failure(NO_FORM.into(), 1)),
     }
 }
 
@@ -43,12 +43,7 @@ fn refused(error: Error, text: &[u8]) -> Failure {
 fn run(arguments: &[String]) -> Result<(), Failure> {
     let (source, target, file, output) = match arguments {
         [source, target, file, output] => (source, target, file, output),
-        _ => {
-            return Err(Failure(
-                "usage: convert SOURCE TARGET FILE OUTPUT".into(),
-                2,
-            ))
-        }
+        _ => return Err(Failure(USAGE.into(), 2)),
     };
     let text = fs::read(file).map_err(|_| Failure(format!("{file}: cannot be read"), 2))?;
     let converted = oakentwirl::convert(form(source)?, form(target)?, &text)
