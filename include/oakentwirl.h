@@ -13,8 +13,8 @@
  *     what the buffers hold, nor that memory beyond them is left alone. Buffers that are only read may overlap.
  *
  * What a caller gets: a buffer that is lent as const is never written. A refusal writes nothing to any buffer. An accepted call
- * writes the first `count` entries of its buffer and leaves the others as they were. The functions call nothing else, ask for no
- * memory and keep nothing between two calls, so that any number of threads may call them at once.
+ * writes the first `count` entries of its buffer and leaves the others as they were. The functions ask for no memory and keep
+ * nothing between two calls, so that any number of threads may call them at once.
  *
  * To find how large a buffer must be, lend one of length 0: the answer is OAK_SHORT_ROOM with the room needed as `count`, or
  * OAK_ACCEPTED where nothing is to be written, or the refusal that stands before any room is asked for.
