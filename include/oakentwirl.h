@@ -17,7 +17,8 @@
  * nothing between two calls, so that any number of threads may call them at once.
  *
  * To find how large a buffer must be, lend one of length 0: the answer is OAK_SHORT_ROOM with the room needed as `count`, or
- * OAK_ACCEPTED where nothing is to be written, or the refusal that stands before any room is asked for.
+ * OAK_ACCEPTED where nothing is to be written, or the refusal that stands before any room is asked for. Reading a text or a case
+ * never needs more words than it has octets.
  */
 #ifndef OAKENTWIRL_H
 #define OAKENTWIRL_H

@@ -52,7 +52,7 @@ abbrev pub byHeader : {A : Type 0} → Header → (ℕ → A) → (ℕ → ℕ �
 byHeader (Refused r) without within = without r
 byHeader (Pages form n) without within = within form n
 
--- a whole case: "13, 14, 11, 15, then pages from the first"
+-- a whole case: "13, 14, 11, 15, then pages from the first"; that the number is a form's has been asked by then, so the second 11 is never given
 unfoldable pub readCase : List ℕ → CaseOutcome
 readCase case =
     byHeader (headerOf case) turned (λ form n. inForm (formOf form) (turned 11) (λ f. readPages f (pagesOf case)))
