@@ -1,28 +1,28 @@
 -- The table read square by square is the definition's list of squares, so a search of the one is a search of the other; and a look-up in the
 -- table is a look-up in the rows.
 -- Assumes nothing.
-use Prim.Native.Nat.{ℕ, _+_, _/_, _%_, _≤_, _<_}
+use Prim.Native.Nat.{ℕ, _+_, _/_, _%_, _<_}
 use mathlib.Core.Path.{_≡_, refl, sym, ap, _∙_}
 use mathlib.Core.List.{List}
 use lib.Dec.{eqb}
 use lib.ListN.{getD}
-use borrow.Author.Tests.{eq-eqb, ne-eqb, le-leb, lt-leb}
+use borrow.Author.Tests.{eq-eqb, ne-eqb, lt-leb}
 use Rattle.run.specs.Choice.{pick}
 use Rattle.run.proofs.Range.{listed, within²}
 use Rattle.run.proofs.Search.{filled as filled-entries, Left, goes-on, hits, at-end}
 use Rattle.alphabet.specs.declared.Found.{Found}
 use Rattle.alphabet.specs.declared.Found.the-variants.{Char, Nothing}
 use Rattle.alphabet.specs.declared.Pairing.the-variants.{Nowhere}
-use Rattle.alphabet.specs.Squares.{Square, sq, character, pairing, squares, pairIn, pairOf, squareOf, rowOf, columnOf, entryAt, pairAt, marks, followers}
+use Rattle.alphabet.specs.Lent.{squareTable, squareIn}
+use Rattle.alphabet.specs.Squares.{Square, sq, character, pairing, squares, pairIn, pairOf, squareOf, rowOf, columnOf, pairAt, marks, followers}
 
--- ---- past the table
-pub no-row : (r c : ℕ) → 13 ≤ r → 0 ≡ entryAt r c
-unfolding entryAt
-no-row r c h = sym (simp (le-leb 13 r h))
+-- an entry of the table of the code
+abbrev pub entryAt : ℕ → ℕ → ℕ
+entryAt r c = squareIn squareTable r c
 
-pub no-column : (r c : ℕ) → r < 13 → 53 ≤ c → 0 ≡ entryAt r c
-unfolding entryAt
-no-column r c h w = sym (simp (lt-leb 13 r h, le-leb 53 c w))
+-- what `square_in` gave of what `square_table` gave
+pub entry-of : {x : ℕ} (table : List (List ℕ)) (r c : ℕ) → table ≡ squareTable → x ≡ squareIn table r c → x ≡ entryAt r c
+entry-of table r c q e = e ∙ ap (λ (t : List (List ℕ)). squareIn t r c) q
 
 -- ---- from a mark and a follower to a character
 
@@ -32,7 +32,7 @@ found x = pick (eqb x 0) Nothing (Char x)
 
 -- the test: all pairs of octets
 found-test : listed (λ m. listed (λ l. squareOf m l) 0 256) 0 256 ≡ listed (λ m. listed (λ l. found (entryAt (rowOf m) (columnOf l))) 0 256) 0 256
-unfolding entryAt squareOf rowOf columnOf
+unfolding squareTable squareOf rowOf columnOf
 found-test = refl
 
 -- what each way out of `paired` rests on: r and c are what `row_of` and `column_of` gave
@@ -57,7 +57,7 @@ squareAt i = sq (getD marks (i / 53) 0) (getD followers (i % 53) 0) (placeEntry 
 
 -- the test: the table has the definition's squares, in its order
 pub squares-test : squares ≡ filled-entries character pairing Nowhere placeEntry squareAt (λ i. refl) 689 0 689
-unfolding entryAt marks followers squares
+unfolding squareTable marks followers squares
 squares-test = refl
 
 -- what the loop of `find_pair` keeps, and its ways out

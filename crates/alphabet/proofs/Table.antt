@@ -19,7 +19,8 @@ use Rattle.alphabet.specs.declared.Pairing.{Pairing}
 use Rattle.alphabet.specs.declared.Pairing.the-variants.{Of, Nowhere}
 use Rattle.alphabet.specs.Cells.{Cell, _is_, octet, meaning, octetIn}
 use Rattle.alphabet.specs.Tables.{Row, row, rows, supplementary}
-use Rattle.alphabet.specs.Squares.{Square, sq, character, pairing, markOf, cellsOf, cellsIn, inRow, squaresIn, squares, squareOf, pairOf, entryAt, marks, followers}
+use Rattle.alphabet.specs.Lent.{squareTable}
+use Rattle.alphabet.specs.Squares.{Square, sq, character, pairing, markOf, cellsOf, cellsIn, inRow, squaresIn, squares, squareOf, pairOf, marks, followers}
 use Rattle.alphabet.proofs.Pairs.{placeEntry, squareAt, squares-test}
 use Rattle.alphabet.proofs.Spellings.{pair-hit}
 
@@ -42,7 +43,7 @@ followerAt i = getD followers (i % 53) 0
 
 -- THE TEST: of each entry its character, its inverse, and that it is no supplementary character
 table-test : listed (λ i. told (squareOf (markAt i) (followerAt i))) 0 689 ≡ listed (λ i. wanted (placeEntry i) (Of (markAt i) (followerAt i))) 0 689
-unfolding squareOf pairOf supplementary entryAt marks followers
+unfolding squareOf pairOf supplementary squareTable marks followers
 table-test = refl
 
 -- what the test says of a filled square

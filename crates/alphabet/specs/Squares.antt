@@ -78,10 +78,6 @@ abbrev pub number : Found → ℕ
 number (Char c) = c
 number Nothing = 0
 
-unfoldable pub entryAt : ℕ → ℕ → ℕ
-unfolding squareOf marks followers
-entryAt r c = pick (leb 13 r) 0 (pick (leb 53 c) 0 (number (squareOf (getD marks r 0) (getD followers c 0))))
-
 -- the mark and the follower at a place, counted row by row
 unfoldable pub pairAt : ℕ → Pairing
 unfolding marks followers

@@ -1,13 +1,15 @@
 // The alphabets of document 01: what an octet begins in a form, what a mark and its follower are, and how a character is spelt.
+mod codes;
 mod squares;
 mod supplementary;
 
 ghost use mathlib.Core.Path.{_≡_};
 ghost use Rattle.alphabet.specs.Cells.{octetIn};
 ghost use Rattle.alphabet.specs.Tables.{supplementary};
-ghost use Rattle.alphabet.specs.Squares.{squareOf, pairOf, rowOf, columnOf, entryAt, pairAt};
+ghost use Rattle.alphabet.specs.Squares.{squareOf, pairOf, rowOf, columnOf, pairAt};
 ghost use Rattle.alphabet.specs.Forms.{formOf};
 ghost use Rattle.alphabet.specs.Sorts.{sortIn, shiftedIn, plainIn, entry, upperAt, spacingOf};
+ghost use Rattle.alphabet.specs.Lent.{squareTable, squareIn, codeTable, codeIn, pairIn};
 ghost use Rattle.alphabet.specs.Spelling.{spellIn, asciiOctet, plainOctet, spellSpacing, spellPair};
 
 // The three forms of text: T51String in eight bits and in seven, basic T.61.
@@ -268,9 +270,16 @@ fn column_of(follower: u8) -> usize
     }
 }
 
-// An entry of the table of squares: 0 where the square is empty, or past the table.
-fn square_at(row: usize, column: usize) -> u32
-    ensures { λ r. ⌜ r ≡ entryAt row column ⌝ }
+// The table of squares, to be lent: made once for a whole text, as a look-up in a constant copies the whole of it.
+pub fn square_table() -> [[u32; 53]; 13]
+    ensures { λ r. ⌜ r ≡ squareTable ⌝ }
+{
+    squares::SQUARES
+}
+
+// An entry of a lent table of squares: 0 where the square is empty, or past the table.
+fn square_in(table: &[[u32; 53]; 13], row: usize, column: usize) -> u32
+    ensures { λ r. ⌜ r ≡ squareIn (now (table .entry)) row column ⌝ }
 {
     if 13 <= row {
         return 0;
@@ -278,18 +287,47 @@ fn square_at(row: usize, column: usize) -> u32
     if 53 <= column {
         return 0;
     }
-    squares::SQUARES[row][column]
+    table[row][column]
 }
 
 // The character of a mark, as its octet in the eight-bit forms, and a follower.
 pub fn paired(mark: u8, follower: u8) -> Found
     ensures { λ r. ⌜ r ≡ squareOf mark follower ⌝ }
 {
-    let x = square_at(row_of(mark), column_of(follower));
+    let table = squares::SQUARES;
+    let x = square_in(&table, row_of(mark), column_of(follower));
     if x == 0 {
         return Found::Nothing;
     }
     Found::Char(x)
+}
+
+// The table of what each octet of a form is by itself, to be lent: made once for a whole text.
+pub fn code_table(form: Form) -> [u32; 256]
+    ensures { λ r. ⌜ r ≡ codeTable form ⌝ }
+{
+    match form {
+        Form::Eight => codes::EIGHT,
+        Form::Seven => codes::SEVEN,
+        Form::Basic => codes::BASIC,
+    }
+}
+
+// What an octet is by itself, by a lent table: a spacing character below 2^31, and from there on none.
+pub fn code_in(table: &[u32; 256], octet: u8) -> u32
+    ensures { λ r. ⌜ r ≡ codeIn (now (table .entry)) octet ⌝ }
+{
+    table[octet as usize]
+}
+
+// The character of a mark, as `code_in` gave it, and a follower, by a lent table: 0 where there is none.
+pub fn pair_in(table: &[[u32; 53]; 13], code: u32, follower: u8) -> u32
+    ensures { λ r. ⌜ r ≡ pairIn (now (table .entry)) code follower ⌝ }
+{
+    if code < 0x80000000 {
+        return 0;
+    }
+    square_in(table, (code - 0x80000000) as usize, column_of(follower))
 }
 
 // The mark and the follower of a square, counted row by row.
@@ -309,9 +347,10 @@ fn find_pair(c: u32) -> Pairing
     if c == 0 {
         return Pairing::Nowhere;
     }
+    let table = squares::SQUARES;
     let mut i: usize = 0;
     while i < 689 {
-        if square_at(i / 53, i % 53) == c {
+        if square_in(&table, i / 53, i % 53) == c {
             return pair_at(i);
         }
         i += 1;

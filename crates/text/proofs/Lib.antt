@@ -1,6 +1,7 @@
 mod Passed
 mod Heads
 mod Loops
+mod Lent
 mod Writes
 mod Rooms
 mod Edges

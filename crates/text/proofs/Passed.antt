@@ -133,7 +133,7 @@ pub record Filled {A : Type 0} (head : List ℕ → Head A) (gives : A → List 
   pub passed : Passed head gives s at es
   pub put : Put l₀ 0 (given gives es) l o
 
-room-front : {A : Type 0} (gives : A → List ℕ) (es : List A) (k r : ℕ) (x : Outcome A) → roomFor gives r (join es k x) → length (given gives es) ≤ r
+pub room-front : {A : Type 0} (gives : A → List ℕ) (es : List A) (k r : ℕ) (x : Outcome A) → roomFor gives r (join es k x) → length (given gives es) ≤ r
 room-front gives es k r (accepted fs) h = omega (arith, ap length (given-append gives es fs), length-append (given gives es) (given gives fs), h)
 room-front gives es k r (refusal a b c d) h = absurd h
 

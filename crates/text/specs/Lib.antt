@@ -1,3 +1,4 @@
 pub mod Outcomes
 pub mod Answers
 pub mod Table
+pub mod Lent

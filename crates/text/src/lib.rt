@@ -6,11 +6,14 @@ use element::Step;
 use run::Answer;
 ghost use mathlib.Core.Path.{_≡_};
 ghost use Prim.Native.Nat.{_+_, _≤_, _<_};
-ghost use lib.ListN.{length};
+ghost use lib.ListN.{length, drop};
 ghost use Rattle.run.specs.Answers.{bare, answerOf, writtenOf};
+ghost use Rattle.run.specs.Put.{Put};
+ghost use Rattle.alphabet.specs.Lent.{squareTable, codeTable};
 ghost use Rattle.element.specs.Words.{wordsOf};
 ghost use Rattle.element.specs.Reading.{stepAt};
 ghost use Rattle.text.specs.Outcomes.{readIn, writeIn, respellIn, convertIn};
+ghost use Rattle.text.specs.Lent.{loneWords, pairWord};
 ghost use Rattle.text.specs.Answers.{limit, same, measured, roomFor, refusedAs, measureAnswer, readAnswer, readWords, writeAnswer, writeText, convertAnswer, convertText, loneStep};
 
 // Reads the element at a place. A plain octet, which is itself the character, goes before any table is looked at.
@@ -56,8 +59,86 @@ fn refusal(step: Step, n: usize) -> Answer
     }
 }
 
-// The first pass of reading: the answer as with room enough.
-fn measure_read(form: Form, text: &[u8]) -> Answer
+// How many octets from `at` on, of `most` of them, are each a spacing character by itself.
+fn run_within(codes: &[u32; 256], text: &[u8], at: usize, most: usize) -> usize
+    requires { ⌜ at + most ≤ length (now text) ⌝ }
+    ensures { λ r. ⌜ r ≡ length (loneWords (now (codes .entry)) most (drop at (now (text .entry)))) ⌝ }
+{
+    let mut i = 0;
+    while i < most {
+        if 0x80000000 <= alphabet::code_in(codes, text[at + i]) {
+            return i;
+        }
+        i += 1;
+    }
+    i
+}
+
+// The same of sixteen octets, or of what is left of the text. A loop of known length costs three instructions an octet.
+fn lone_run(codes: &[u32; 256], text: &[u8], at: usize) -> usize
+    requires { ⌜ at ≤ length (now text) ⌝ }
+    ensures { λ r. ⌜ r ≡ length (loneWords (now (codes .entry)) 16 (drop at (now (text .entry)))) ⌝ }
+{
+    let left = text.len() - at;
+    if left < 16 {
+        return run_within(codes, text, at, left);
+    }
+    run_within(codes, text, at, 16)
+}
+
+// Writes what `run_within` counts: each octet's character, from `o` on.
+fn put_within(
+    codes: &[u32; 256],
+    text: &[u8],
+    at: usize,
+    words: &mut [u32],
+    o: usize,
+    most: usize,
+) -> usize
+    requires { ⌜ at + most ≤ length (now text) ⌝ }
+    requires { ⌜ o + length (loneWords (now codes) most (drop at (now text))) ≤ length (now words) ⌝ }
+    ensures { λ r. ⌜ (r ≡ length (loneWords (now (codes .entry)) most (drop at (now (text .entry))))) × Put (now (words .entry)) o (loneWords (now (codes .entry)) most (drop at (now (text .entry)))) (now (words .exit)) (o + r) ⌝ }
+{
+    let mut i = 0;
+    while i < most {
+        let w = alphabet::code_in(codes, text[at + i]);
+        if 0x80000000 <= w {
+            return i;
+        }
+        words[o + i] = w;
+        i += 1;
+    }
+    i
+}
+
+// Writes what `lone_run` counts.
+fn put_run(codes: &[u32; 256], text: &[u8], at: usize, words: &mut [u32], o: usize) -> usize
+    requires { ⌜ at ≤ length (now text) ⌝ }
+    requires { ⌜ o + length (loneWords (now codes) 16 (drop at (now text))) ≤ length (now words) ⌝ }
+    ensures { λ r. ⌜ (r ≡ length (loneWords (now (codes .entry)) 16 (drop at (now (text .entry))))) × Put (now (words .entry)) o (loneWords (now (codes .entry)) 16 (drop at (now (text .entry)))) (now (words .exit)) (o + r) ⌝ }
+{
+    let left = text.len() - at;
+    if left < 16 {
+        return put_within(codes, text, at, words, o, left);
+    }
+    put_within(codes, text, at, words, o, 16)
+}
+
+// The character of the pair at a place, a mark and its listed follower: 0 where there is none.
+fn pair_at(codes: &[u32; 256], squares: &[[u32; 53]; 13], text: &[u8], at: usize) -> u32
+    requires { ⌜ at ≤ length (now text) ⌝ }
+    ensures { λ r. ⌜ r ≡ pairWord (now (codes .entry)) (now (squares .entry)) (drop at (now (text .entry))) ⌝ }
+{
+    if text.len() - at < 2 {
+        return 0;
+    }
+    alphabet::pair_in(squares, alphabet::code_in(codes, text[at]), text[at + 1])
+}
+
+// The first pass of reading: the answer as with room enough. Spacing characters go by the run and pairs by the lent tables; what is neither
+// is read as an element.
+fn measure_read(form: Form, codes: &[u32; 256], squares: &[[u32; 53]; 13], text: &[u8]) -> Answer
+    requires { ⌜ (now codes ≡ codeTable form) × (now squares ≡ squareTable) ⌝ }
     requires { ⌜ length (now text) ≤ limit ⌝ }
     ensures { λ r. ⌜ r ≡ measured wordsOf (length (now (text .entry))) (readIn form (now (text .entry))) ⌝ }
 {
@@ -65,13 +146,28 @@ fn measure_read(form: Form, text: &[u8]) -> Answer
     let mut n = 0;
     let mut count = 0;
     while at < text.len() {
-        let step = step_at(form, text, at);
-        let Step::Element(e, next) = step else {
-            return refusal(step, n);
-        };
-        at = next;
-        n += 1;
-        count += element::words_in(e);
+        let k = lone_run(codes, text, at);
+        at += k;
+        n += k;
+        count += k;
+        if k < 16 {
+            if at < text.len() {
+                let x = pair_at(codes, squares, text, at);
+                if x != 0 {
+                    at += 2;
+                    n += 1;
+                    count += 1;
+                } else {
+                    let step = element::element_at(form, text, at);
+                    let Step::Element(e, next) = step else {
+                        return refusal(step, n);
+                    };
+                    at = next;
+                    n += 1;
+                    count += element::words_in(e);
+                }
+            }
+        }
     }
     Answer {
         number: 0,
@@ -82,19 +178,40 @@ fn measure_read(form: Form, text: &[u8]) -> Answer
 }
 
 // The second pass of reading, where the text is accepted and there is room.
-fn fill_read(form: Form, text: &[u8], words: &mut [u32])
+fn fill_read(
+    form: Form,
+    codes: &[u32; 256],
+    squares: &[[u32; 53]; 13],
+    text: &[u8],
+    words: &mut [u32],
+)
+    requires { ⌜ (now codes ≡ codeTable form) × (now squares ≡ squareTable) ⌝ }
     requires { ⌜ roomFor wordsOf (length (now words)) (readIn form (now text)) ⌝ }
     ensures { λ _. ⌜ now (words .exit) ≡ writtenOf wordsOf (now (words .entry)) (readIn form (now (text .entry))) ⌝ }
 {
     let mut at = 0;
     let mut o = 0;
     while at < text.len() {
-        let step = step_at(form, text, at);
-        let Step::Element(e, next) = step else {
-            return;
-        };
-        o = element::put_words(e, words, o);
-        at = next;
+        let k = put_run(codes, text, at, words, o);
+        at += k;
+        o += k;
+        if k < 16 {
+            if at < text.len() {
+                let x = pair_at(codes, squares, text, at);
+                if x != 0 {
+                    words[o] = x;
+                    at += 2;
+                    o += 1;
+                } else {
+                    let step = element::element_at(form, text, at);
+                    let Step::Element(e, next) = step else {
+                        return;
+                    };
+                    o = element::put_words(e, words, o);
+                    at = next;
+                }
+            }
+        }
     }
 }
 
@@ -201,11 +318,18 @@ fn fill_convert(source: Form, target: Form, text: &[u8], out: &mut [u8])
 }
 
 // Reads a text that is within the limit: measured first, and then filled in.
-fn read_in(form: Form, text: &[u8], words: &mut [u32]) -> Answer
+fn read_in(
+    form: Form,
+    codes: &[u32; 256],
+    squares: &[[u32; 53]; 13],
+    text: &[u8],
+    words: &mut [u32],
+) -> Answer
+    requires { ⌜ (now codes ≡ codeTable form) × (now squares ≡ squareTable) ⌝ }
     requires { ⌜ length (now text) ≤ limit ⌝ }
     ensures { λ r. ⌜ (r ≡ answerOf wordsOf (length (now (text .entry))) (length (now (words .entry))) (readIn form (now (text .entry)))) × (now (words .exit) ≡ writtenOf wordsOf (now (words .entry)) (readIn form (now (text .entry)))) ⌝ }
 {
-    let m = measure_read(form, text);
+    let m = measure_read(form, codes, squares, text);
     if m.number != 0 {
         return m;
     }
@@ -217,7 +341,7 @@ fn read_in(form: Form, text: &[u8], words: &mut [u32]) -> Answer
             count: m.count,
         };
     }
-    fill_read(form, text, words);
+    fill_read(form, codes, squares, text, words);
     m
 }
 
@@ -266,7 +390,9 @@ fn convert_in(source: Form, target: Form, text: &[u8], out: &mut [u8]) -> Answer
     requires { ⌜ length (now text) ≤ limit ⌝ }
     ensures { λ r. ⌜ (r ≡ answerOf same (length (now (text .entry))) (length (now (out .entry))) (convertIn source target (now (text .entry)))) × (now (out .exit) ≡ writtenOf same (now (out .entry)) (convertIn source target (now (text .entry)))) ⌝ }
 {
-    let m = measure_read(source, text);
+    let codes = alphabet::code_table(source);
+    let squares = alphabet::square_table();
+    let m = measure_read(source, &codes, &squares, text);
     if m.number != 0 {
         return m;
     }
@@ -296,7 +422,9 @@ pub fn measure(form: u32, text: &[u8]) -> Answer
     if 1048576 < text.len() {
         return bare_refusal(12);
     }
-    measure_read(f, text)
+    let codes = alphabet::code_table(f);
+    let squares = alphabet::square_table();
+    measure_read(f, &codes, &squares, text)
 }
 
 // Reads a whole text. 01's order of refusals: 11, 12, reading, 9.
@@ -310,7 +438,9 @@ pub fn read(form: u32, text: &[u8], words: &mut [u32]) -> Answer
     if 1048576 < text.len() {
         return bare_refusal(12);
     }
-    read_in(f, text, words)
+    let codes = alphabet::code_table(f);
+    let squares = alphabet::square_table();
+    read_in(f, &codes, &squares, text, words)
 }
 
 // Writes a list of words. 01's order of refusals: 11, 12, 10, 9.

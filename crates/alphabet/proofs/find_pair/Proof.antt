@@ -1,16 +1,17 @@
-use Prim.Native.Nat.{_≤_, _-_}
-use mathlib.Core.Path.{sym, _∙_}
+use Prim.Native.Nat.{_≤_, _-_, _/_, _%_}
+use mathlib.Core.Path.{refl, sym, _∙_}
+use Rattle.alphabet.specs.Lent.{squareTable}
 use native.Mathlib.Omega.{arith}
 use borrow.Author.Needs.{needs}
-use Rattle.alphabet.proofs.Pairs.{Left-pair, pair-start, pair-on, pair-hit, pair-end, no-pair-at-0}
+use Rattle.alphabet.proofs.Pairs.{entry-of, Left-pair, pair-start, pair-on, pair-hit, pair-end, no-pair-at-0}
 use Rattle.alphabet.proofs.find_pair.Statement.{statement}
 use Rattle.alphabet.proofs.find_pair.Tie as tie
 
 abbrev Inv-loop : tie.InvT-loop
-Inv-loop c i₀ i = (i ≤ 689) × Left-pair c i
+Inv-loop c table i₀ i = (i ≤ 689) × Left-pair c i
 
 abbrev μ-loop : tie.MeasureT-loop
-μ-loop c i₀ i = 689 - i
+μ-loop c table i₀ i = 689 - i
 
 returns : tie.Need-returns Inv-loop μ-loop
 returns c = no-pair-at-0 _ (c .if1 .taken)
@@ -18,17 +19,18 @@ returns c = no-pair-at-0 _ (c .if1 .taken)
 loop-holds : tie.Need-loop-holds Inv-loop μ-loop
 loop-holds c = (search needs, pair-start _)
 
-square-at-requires : tie.Need-square-at-requires Inv-loop μ-loop
-square-at-requires c κs = search needs
+square-in-requires : tie.Need-square-in-requires Inv-loop μ-loop
+square-in-requires c κs = search needs
 
 pair-at-requires : tie.Need-pair-at-requires Inv-loop μ-loop
 pair-at-requires c κs = search needs
 
 returns-2 : tie.Need-returns-2 Inv-loop μ-loop
+unfolding squareTable
 returns-2 c =
-    let at-loop = c .before .before .before .before in
+    let at-loop = c .before .before .before .before .before in
     c .pair-at .ensures
-    ∙ pair-hit _ (at-loop .loop .i) (c .before .before .before .loop-test .taken) (at-loop .loop .inv .1) (at-loop .before .if1 .left) (sym (c .before .before .square-at .ensures) ∙ c .before .if2 .taken)
+    ∙ pair-hit _ (at-loop .loop .i) (c .before .before .before .before .loop-test .taken) (at-loop .loop .inv .1) (at-loop .before .if1 .left) (sym (entry-of _ (at-loop .loop .i / 53) (at-loop .loop .i % 53) refl (c .before .before .square-in .ensures)) ∙ c .before .if2 .taken)
 
 add-i : tie.Need-add-i Inv-loop μ-loop
 add-i c = search needs
@@ -37,9 +39,10 @@ loop-less : tie.Need-loop-less Inv-loop μ-loop
 loop-less c = search needs
 
 loop-again : tie.Need-loop-again Inv-loop μ-loop
+unfolding squareTable
 loop-again c =
-    let at-loop = c .before .before .before in
-    (omega arith, pair-on _ (at-loop .loop .i) (c .before .before .loop-test .taken) (at-loop .loop .inv .1) (λ e. c .if2 .left (c .before .square-at .ensures ∙ e)))
+    let at-loop = c .before .before .before .before in
+    (omega arith, pair-on _ (at-loop .loop .i) (c .before .before .before .loop-test .taken) (at-loop .loop .inv .1) (λ e. c .if2 .left (entry-of _ (at-loop .loop .i / 53) (at-loop .loop .i % 53) refl (c .before .square-in .ensures) ∙ e)))
 
 returns-3 : tie.Need-returns-3 Inv-loop μ-loop
 returns-3 c = pair-end _ (c .before .loop .i) (omega arith) (c .before .loop .inv .1)
@@ -52,7 +55,7 @@ find-pair-spec =
     μ-loop
     returns
     loop-holds
-    square-at-requires
+    square-in-requires
     pair-at-requires
     returns-2
     add-i

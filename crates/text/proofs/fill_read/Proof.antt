@@ -1,58 +1,207 @@
 use Prim.Native.Nat.{_-_}
 use mathlib.Core.Path.{sym, _∙_}
 use native.Mathlib.Omega.{arith}
-use borrow.Author.Needs.{needs}
 use lib.ListN.{length}
+use borrow.Author.Needs.{needs}
 use Rattle.element.specs.Words.{wordsOf}
 use Rattle.element.specs.Grammar.{Spells}
 use Rattle.element.specs.Reading.{headIn}
 use Rattle.element.proofs.Reader.{reads}
-use Rattle.text.proofs.Passed.{Filled, fill-start, fill-length, fill-onward, fill-room, fill-turn, fill-done}
 use Rattle.element.proofs.Sizes.{words-short}
+use Rattle.text.proofs.Passed.{Filled, fill-start, fill-length, fill-onward, fill-room, fill-turn, fill-done}
 use Rattle.text.proofs.Loops.{here, read-never, fits}
+use Rattle.text.proofs.Lent.{room-for-run, filled-run, filled-inside, filled-small, room-for-pair, filled-pair}
 use Rattle.text.proofs.fill_read.Statement.{statement}
 use Rattle.text.proofs.fill_read.Tie as tie
 
 abbrev Inv-loop : tie.InvT-loop
-Inv-loop form text words₀ at₀ o₀ words at o = Filled (headIn form) wordsOf text words₀ at o words
+Inv-loop form codes squares text words₀ at₀ o₀ words at o = Filled (headIn form) wordsOf text words₀ at o words
 
 abbrev μ-loop : tie.MeasureT-loop
-μ-loop form text words₀ at₀ o₀ words at o = length text - at
+μ-loop form codes squares text words₀ at₀ o₀ words at o = length text - at
 
 loop-holds : tie.Need-loop-holds Inv-loop μ-loop
-loop-holds c = fill-start (headIn (c .before .before .args .form)) (Spells (c .before .before .args .form)) (reads (c .before .before .args .form)) wordsOf (c .before .before .args .text .now) (c .before .before .args .words .now)
+loop-holds c = let a = c .before .before .args in fill-start (headIn (a .form)) (Spells (a .form)) (reads (a .form)) wordsOf (a .text .now) (a .words .now)
 
-step-at-requires : tie.Need-step-at-requires Inv-loop μ-loop
-step-at-requires c κs = search needs
+put-run-requires : tie.Need-put-run-requires Inv-loop μ-loop
+put-run-requires c κs =
+    let a = c .before .before .before .before .before .args in
+    let p = c .before .before .before .before .before .pre in
+    let i = c .before .before .loop in
+    (search needs, room-for-run (a .form) (a .text .now) (a .codes .now) (a .squares .now) (p .0) (a .words .now) (p .1) _ _ _ (i .inv))
+
+add-at : tie.Need-add-at Inv-loop μ-loop
+add-at c =
+    let a = c .before .before .before .before .before .before .before .before .args in
+    let p = c .before .before .before .before .before .before .before .before .pre in
+    let i = c .before .before .before .before .before .loop in
+    let m = filled-run (a .form) (a .text .now) (a .codes .now) (a .squares .now) (p .0) (a .words .now) (p .1) (i .at) (i .o) (i .words) (i .inv) _ _ (c .before .before .put-run .ensures) in
+    let s = filled-inside (a .form) (a .text .now) (a .codes .now) (a .squares .now) (p .0) (a .words .now) (p .1) _ _ _ m in
+    search (needs, s)
+
+add-o : tie.Need-add-o Inv-loop μ-loop
+add-o c =
+    let a = c .before .before .before .before .before .before .before .before .args in
+    let p = c .before .before .before .before .before .before .before .before .pre in
+    let i = c .before .before .before .before .before .loop in
+    let m = filled-run (a .form) (a .text .now) (a .codes .now) (a .squares .now) (p .0) (a .words .now) (p .1) (i .at) (i .o) (i .words) (i .inv) _ _ (c .before .before .put-run .ensures) in
+    let s = filled-inside (a .form) (a .text .now) (a .codes .now) (a .squares .now) (p .0) (a .words .now) (p .1) _ _ _ m in
+    search (needs, filled-small (a .form) (a .text .now) (a .codes .now) (a .squares .now) (p .0) (a .words .now) (p .1) _ _ _ m)
+
+pair-at-requires : tie.Need-pair-at-requires Inv-loop μ-loop
+pair-at-requires c κs = search needs
+
+mul-words : tie.Need-mul-words Inv-loop μ-loop
+mul-words c =
+    let a = c .before .before .before .before .before .before .before .before .before .before .before .before .args in
+    let p = c .before .before .before .before .before .before .before .before .before .before .before .before .pre in
+    let i = c .before .before .before .before .before .before .before .before .before .loop in
+    let m = filled-run (a .form) (a .text .now) (a .codes .now) (a .squares .now) (p .0) (a .words .now) (p .1) (i .at) (i .o) (i .words) (i .inv) _ _ (c .before .before .before .before .before .before .put-run .ensures) in
+    let s = filled-inside (a .form) (a .text .now) (a .codes .now) (a .squares .now) (p .0) (a .words .now) (p .1) _ _ _ m in
+    let e = c .before .pair-at .ensures in
+    let z = c .if3 .taken in
+    search (needs, room-for-pair (a .form) (a .text .now) (a .codes .now) (a .squares .now) (p .0) (a .words .now) (p .1) _ _ _ m _ e z, fill-length (headIn (a .form)) (Spells (a .form)) (reads (a .form)) wordsOf (a .text .now) (a .words .now) (p .1) _ _ _ m)
+
+slice-write-words : tie.Need-slice-write-words Inv-loop μ-loop
+slice-write-words c =
+    let a = c .before .before .before .before .before .before .before .before .before .before .before .before .args in
+    let p = c .before .before .before .before .before .before .before .before .before .before .before .before .pre in
+    let i = c .before .before .before .before .before .before .before .before .before .loop in
+    let m = filled-run (a .form) (a .text .now) (a .codes .now) (a .squares .now) (p .0) (a .words .now) (p .1) (i .at) (i .o) (i .words) (i .inv) _ _ (c .before .before .before .before .before .before .put-run .ensures) in
+    let s = filled-inside (a .form) (a .text .now) (a .codes .now) (a .squares .now) (p .0) (a .words .now) (p .1) _ _ _ m in
+    let e = c .before .pair-at .ensures in
+    let z = c .if3 .taken in
+    room-for-pair (a .form) (a .text .now) (a .codes .now) (a .squares .now) (p .0) (a .words .now) (p .1) _ _ _ m _ e z
+
+add-at-2 : tie.Need-add-at-2 Inv-loop μ-loop
+add-at-2 c =
+    let a = c .before .before .before .before .before .before .before .before .before .before .before .before .args in
+    let p = c .before .before .before .before .before .before .before .before .before .before .before .before .pre in
+    let i = c .before .before .before .before .before .before .before .before .before .loop in
+    let m = filled-run (a .form) (a .text .now) (a .codes .now) (a .squares .now) (p .0) (a .words .now) (p .1) (i .at) (i .o) (i .words) (i .inv) _ _ (c .before .before .before .before .before .before .put-run .ensures) in
+    let s = filled-inside (a .form) (a .text .now) (a .codes .now) (a .squares .now) (p .0) (a .words .now) (p .1) _ _ _ m in
+    let e = c .before .pair-at .ensures in
+    let z = c .if3 .taken in
+    search (needs, filled-inside (a .form) (a .text .now) (a .codes .now) (a .squares .now) (p .0) (a .words .now) (p .1) _ _ _ (filled-pair (a .form) (a .text .now) (a .codes .now) (a .squares .now) (p .0) (a .words .now) (p .1) _ _ _ m _ e z))
+
+add-o-2 : tie.Need-add-o-2 Inv-loop μ-loop
+add-o-2 c =
+    let a = c .before .before .before .before .before .before .before .before .before .before .before .before .args in
+    let p = c .before .before .before .before .before .before .before .before .before .before .before .before .pre in
+    let i = c .before .before .before .before .before .before .before .before .before .loop in
+    let m = filled-run (a .form) (a .text .now) (a .codes .now) (a .squares .now) (p .0) (a .words .now) (p .1) (i .at) (i .o) (i .words) (i .inv) _ _ (c .before .before .before .before .before .before .put-run .ensures) in
+    let s = filled-inside (a .form) (a .text .now) (a .codes .now) (a .squares .now) (p .0) (a .words .now) (p .1) _ _ _ m in
+    let e = c .before .pair-at .ensures in
+    let z = c .if3 .taken in
+    search (needs, filled-small (a .form) (a .text .now) (a .codes .now) (a .squares .now) (p .0) (a .words .now) (p .1) _ _ _ (filled-pair (a .form) (a .text .now) (a .codes .now) (a .squares .now) (p .0) (a .words .now) (p .1) _ _ _ m _ e z))
+
+loop-less : tie.Need-loop-less Inv-loop μ-loop
+loop-less c =
+    let a = c .before .before .before .before .before .before .before .before .before .before .before .before .args in
+    let p = c .before .before .before .before .before .before .before .before .before .before .before .before .pre in
+    let i = c .before .before .before .before .before .before .before .before .before .loop in
+    let m = filled-run (a .form) (a .text .now) (a .codes .now) (a .squares .now) (p .0) (a .words .now) (p .1) (i .at) (i .o) (i .words) (i .inv) _ _ (c .before .before .before .before .before .before .put-run .ensures) in
+    let s = filled-inside (a .form) (a .text .now) (a .codes .now) (a .squares .now) (p .0) (a .words .now) (p .1) _ _ _ m in
+    let e = c .before .pair-at .ensures in
+    let z = c .if3 .taken in
+    omega (arith, filled-inside (a .form) (a .text .now) (a .codes .now) (a .squares .now) (p .0) (a .words .now) (p .1) _ _ _ (filled-pair (a .form) (a .text .now) (a .codes .now) (a .squares .now) (p .0) (a .words .now) (p .1) _ _ _ m _ e z))
+
+loop-again : tie.Need-loop-again Inv-loop μ-loop
+loop-again c =
+    let a = c .before .before .before .before .before .before .before .before .before .before .before .before .args in
+    let p = c .before .before .before .before .before .before .before .before .before .before .before .before .pre in
+    let i = c .before .before .before .before .before .before .before .before .before .loop in
+    let m = filled-run (a .form) (a .text .now) (a .codes .now) (a .squares .now) (p .0) (a .words .now) (p .1) (i .at) (i .o) (i .words) (i .inv) _ _ (c .before .before .before .before .before .before .put-run .ensures) in
+    let s = filled-inside (a .form) (a .text .now) (a .codes .now) (a .squares .now) (p .0) (a .words .now) (p .1) _ _ _ m in
+    let e = c .before .pair-at .ensures in
+    let z = c .if3 .taken in
+    filled-pair (a .form) (a .text .now) (a .codes .now) (a .squares .now) (p .0) (a .words .now) (p .1) _ _ _ m _ e z
+
+element-at-requires : tie.Need-element-at-requires Inv-loop μ-loop
+element-at-requires c κs = search needs
 
 enum-known-step : tie.Need-enum-known-step Inv-loop μ-loop
 enum-known-step c = search needs
 
 same-length : tie.Need-same-length Inv-loop μ-loop
-same-length c = fill-length (headIn (c .before .before .before .before .before .before .args .form)) (Spells (c .before .before .before .before .before .before .args .form)) (reads (c .before .before .before .before .before .before .args .form)) wordsOf (c .before .before .before .before .before .before .args .text .now) (c .before .before .before .before .before .before .args .words .now) (c .before .before .before .before .before .before .pre) _ _ _ (c .before .before .before .loop .inv)
+same-length c =
+    let a = c .before .before .before .before .before .before .before .before .before .before .before .before .before .before .args in
+    let p = c .before .before .before .before .before .before .before .before .before .before .before .before .before .before .pre in
+    let i = c .before .before .before .before .before .before .before .before .before .before .before .loop in
+    let m = filled-run (a .form) (a .text .now) (a .codes .now) (a .squares .now) (p .0) (a .words .now) (p .1) (i .at) (i .o) (i .words) (i .inv) _ _ (c .before .before .before .before .before .before .before .before .put-run .ensures) in
+    let s = filled-inside (a .form) (a .text .now) (a .codes .now) (a .squares .now) (p .0) (a .words .now) (p .1) _ _ _ m in
+    fill-length (headIn (a .form)) (Spells (a .form)) (reads (a .form)) wordsOf (a .text .now) (a .words .now) (p .1) _ _ _ m
 
 returns : tie.Need-returns Inv-loop μ-loop
-returns c = absurd (read-never _ _ _ (c .before .before .before .before .before .before .pre) _ _ _ _ (c .before .before .before .loop .inv) (c .before .step-at .ensures) (c .match .keys2) (c .before .before .loop-test .taken))
+returns c =
+    let a = c .before .before .before .before .before .before .before .before .before .before .before .before .before .before .args in
+    let p = c .before .before .before .before .before .before .before .before .before .before .before .before .before .before .pre in
+    let i = c .before .before .before .before .before .before .before .before .before .before .before .loop in
+    let m = filled-run (a .form) (a .text .now) (a .codes .now) (a .squares .now) (p .0) (a .words .now) (p .1) (i .at) (i .o) (i .words) (i .inv) _ _ (c .before .before .before .before .before .before .before .before .put-run .ensures) in
+    let s = filled-inside (a .form) (a .text .now) (a .codes .now) (a .squares .now) (p .0) (a .words .now) (p .1) _ _ _ m in
+    absurd (read-never (a .form) (a .text .now) (a .words .now) (p .1) _ _ _ _ m (c .before .element-at .ensures) (c .match .keys2) (c .before .before .before .before .if2 .taken))
 
 put-words-requires : tie.Need-put-words-requires Inv-loop μ-loop
 put-words-requires c κs = search needs
 
-loop-less : tie.Need-loop-less Inv-loop μ-loop
-loop-less c =
-    let h = here (c .before .before .before .before .before .before .before .before .before .before .before .before .args .form) (c .before .before .before .before .before .before .before .before .before .before .before .before .args .text .now) _ _ _ (sym (c .before .before .before .before .before .before .before .step-at .ensures) ∙ c .before .before .before .before .before .step .given .1) in
-    omega (arith, fill-onward (headIn (c .before .before .before .before .before .before .before .before .before .before .before .before .args .form)) (Spells (c .before .before .before .before .before .before .before .before .before .before .before .before .args .form)) (reads (c .before .before .before .before .before .before .before .before .before .before .before .before .args .form)) wordsOf (c .before .before .before .before .before .before .before .before .before .before .before .before .args .text .now) (c .before .before .before .before .before .before .before .before .before .before .before .before .args .words .now) (c .before .before .before .before .before .before .before .before .before .before .before .before .pre) _ _ _ (c .before .before .before .before .before .before .before .before .before .loop .inv) _ _ (h .here), h .onward)
+loop-less-2 : tie.Need-loop-less-2 Inv-loop μ-loop
+loop-less-2 c =
+    let a = c .before .before .before .before .before .before .before .before .before .before .before .before .before .before .before .before .before .before .before .before .args in
+    let p = c .before .before .before .before .before .before .before .before .before .before .before .before .before .before .before .before .before .before .before .before .pre in
+    let i = c .before .before .before .before .before .before .before .before .before .before .before .before .before .before .before .before .before .loop in
+    let m = filled-run (a .form) (a .text .now) (a .codes .now) (a .squares .now) (p .0) (a .words .now) (p .1) (i .at) (i .o) (i .words) (i .inv) _ _ (c .before .before .before .before .before .before .before .before .before .before .before .before .before .before .put-run .ensures) in
+    let s = filled-inside (a .form) (a .text .now) (a .codes .now) (a .squares .now) (p .0) (a .words .now) (p .1) _ _ _ m in
+    let h = here (a .form) (a .text .now) _ _ _ (sym (c .before .before .before .before .before .before .before .element-at .ensures) ∙ c .before .before .before .before .before .step .given .1) in
+    omega (arith, fill-onward (headIn (a .form)) (Spells (a .form)) (reads (a .form)) wordsOf (a .text .now) (a .words .now) (p .1) _ _ _ m _ _ (h .here), h .onward)
 
-loop-again : tie.Need-loop-again Inv-loop μ-loop
-loop-again c =
-    let h = here (c .before .before .before .before .before .before .before .before .before .before .before .before .args .form) (c .before .before .before .before .before .before .before .before .before .before .before .before .args .text .now) _ _ _ (sym (c .before .before .before .before .before .before .before .step-at .ensures) ∙ c .before .before .before .before .before .step .given .1) in
+loop-again-2 : tie.Need-loop-again-2 Inv-loop μ-loop
+loop-again-2 c =
+    let a = c .before .before .before .before .before .before .before .before .before .before .before .before .before .before .before .before .before .before .before .before .args in
+    let p = c .before .before .before .before .before .before .before .before .before .before .before .before .before .before .before .before .before .before .before .before .pre in
+    let i = c .before .before .before .before .before .before .before .before .before .before .before .before .before .before .before .before .before .loop in
+    let m = filled-run (a .form) (a .text .now) (a .codes .now) (a .squares .now) (p .0) (a .words .now) (p .1) (i .at) (i .o) (i .words) (i .inv) _ _ (c .before .before .before .before .before .before .before .before .before .before .before .before .before .before .put-run .ensures) in
+    let s = filled-inside (a .form) (a .text .now) (a .codes .now) (a .squares .now) (p .0) (a .words .now) (p .1) _ _ _ m in
+    let h = here (a .form) (a .text .now) _ _ _ (sym (c .before .before .before .before .before .before .before .element-at .ensures) ∙ c .before .before .before .before .before .step .given .1) in
     let e = c .before .before .before .before .before .step .given .0 .0 in
-    fill-turn (headIn (c .before .before .before .before .before .before .before .before .before .before .before .before .args .form)) (Spells (c .before .before .before .before .before .before .before .before .before .before .before .before .args .form)) (reads (c .before .before .before .before .before .before .before .before .before .before .before .before .args .form)) wordsOf (c .before .before .before .before .before .before .before .before .before .before .before .before .args .text .now) (c .before .before .before .before .before .before .before .before .before .before .before .before .args .words .now) (c .before .before .before .before .before .before .before .before .before .before .before .before .pre) _ _ _ (c .before .before .before .before .before .before .before .before .before .loop .inv) _ _ _ _ _ (h .here) (h .onward) (words-short e) (fits (wordsOf e) (fill-room (headIn (c .before .before .before .before .before .before .before .before .before .before .before .before .args .form)) (Spells (c .before .before .before .before .before .before .before .before .before .before .before .before .args .form)) (reads (c .before .before .before .before .before .before .before .before .before .before .before .before .args .form)) wordsOf (c .before .before .before .before .before .before .before .before .before .before .before .before .args .text .now) (c .before .before .before .before .before .before .before .before .before .before .before .before .args .words .now) (c .before .before .before .before .before .before .before .before .before .before .before .before .pre) _ _ _ (c .before .before .before .before .before .before .before .before .before .loop .inv) _ _ (h .here) (words-short e)) (c .before .before .put-words .ensures))
+    fill-turn (headIn (a .form)) (Spells (a .form)) (reads (a .form)) wordsOf (a .text .now) (a .words .now) (p .1) _ _ _ m _ _ _ _ _ (h .here) (h .onward) (words-short e) (fits (wordsOf e) (fill-room (headIn (a .form)) (Spells (a .form)) (reads (a .form)) wordsOf (a .text .now) (a .words .now) (p .1) _ _ _ m _ _ (h .here) (words-short e)) (c .before .before .put-words .ensures))
+
+loop-less-3 : tie.Need-loop-less-3 Inv-loop μ-loop
+loop-less-3 c = search needs
+
+loop-again-3 : tie.Need-loop-again-3 Inv-loop μ-loop
+loop-again-3 c =
+    let a = c .before .before .before .before .before .before .before .before .before .before .args in
+    let p = c .before .before .before .before .before .before .before .before .before .before .pre in
+    let i = c .before .before .before .before .before .before .before .loop in
+    let m = filled-run (a .form) (a .text .now) (a .codes .now) (a .squares .now) (p .0) (a .words .now) (p .1) (i .at) (i .o) (i .words) (i .inv) _ _ (c .before .before .before .before .put-run .ensures) in
+    let s = filled-inside (a .form) (a .text .now) (a .codes .now) (a .squares .now) (p .0) (a .words .now) (p .1) _ _ _ m in
+    m
+
+loop-less-4 : tie.Need-loop-less-4 Inv-loop μ-loop
+loop-less-4 c = search needs
+
+loop-again-4 : tie.Need-loop-again-4 Inv-loop μ-loop
+loop-again-4 c =
+    let a = c .before .before .before .before .before .before .before .before .before .args in
+    let p = c .before .before .before .before .before .before .before .before .before .pre in
+    let i = c .before .before .before .before .before .before .loop in
+    let m = filled-run (a .form) (a .text .now) (a .codes .now) (a .squares .now) (p .0) (a .words .now) (p .1) (i .at) (i .o) (i .words) (i .inv) _ _ (c .before .before .before .put-run .ensures) in
+    let s = filled-inside (a .form) (a .text .now) (a .codes .now) (a .squares .now) (p .0) (a .words .now) (p .1) _ _ _ m in
+    m
 
 same-length-2 : tie.Need-same-length-2 Inv-loop μ-loop
-same-length-2 c = fill-length (headIn (c .before .before .before .before .args .form)) (Spells (c .before .before .before .before .args .form)) (reads (c .before .before .before .before .args .form)) wordsOf (c .before .before .before .before .args .text .now) (c .before .before .before .before .args .words .now) (c .before .before .before .before .pre) _ _ _ (c .before .loop .inv)
+same-length-2 c =
+    let a = c .before .before .before .before .args in
+    let p = c .before .before .before .before .pre in
+    let i = c .before .loop in
+    fill-length (headIn (a .form)) (Spells (a .form)) (reads (a .form)) wordsOf (a .text .now) (a .words .now) (p .1) _ _ _ (i .inv)
 
 returns-2 : tie.Need-returns-2 Inv-loop μ-loop
-returns-2 c = fill-done (headIn (c .before .before .before .before .args .form)) (Spells (c .before .before .before .before .args .form)) (reads (c .before .before .before .before .args .form)) wordsOf (c .before .before .before .before .args .text .now) (c .before .before .before .before .args .words .now) (c .before .before .before .before .pre) _ _ _ (c .before .loop .inv) (c .loop-test .left)
+returns-2 c =
+    let a = c .before .before .before .before .args in
+    let p = c .before .before .before .before .pre in
+    let i = c .before .loop in
+    fill-done (headIn (a .form)) (Spells (a .form)) (reads (a .form)) wordsOf (a .text .now) (a .words .now) (p .1) _ _ _ (i .inv) (c .loop-test .left)
 
 pub fill-read-spec : {M : Type 1} → statement M
 fill-read-spec =
@@ -61,12 +210,26 @@ fill-read-spec =
     Inv-loop
     μ-loop
     loop-holds
-    step-at-requires
+    put-run-requires
+    add-at
+    add-o
+    pair-at-requires
+    mul-words
+    slice-write-words
+    add-at-2
+    add-o-2
+    loop-less
+    loop-again
+    element-at-requires
     enum-known-step
     same-length
     returns
     put-words-requires
-    loop-less
-    loop-again
+    loop-less-2
+    loop-again-2
+    loop-less-3
+    loop-again-3
+    loop-less-4
+    loop-again-4
     same-length-2
     returns-2)

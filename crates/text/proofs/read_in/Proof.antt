@@ -11,19 +11,27 @@ measure-read-requires : tie.Need-measure-read-requires
 measure-read-requires c κs = search needs
 
 returns : tie.Need-returns
-returns c = refuses (headIn (c .before .before .before .before .before .args .form)) (Spells (c .before .before .before .before .before .args .form)) (reads (c .before .before .before .before .before .args .form)) wordsOf (c .before .before .before .before .before .args .text .now) (c .before .before .before .before .before .args .words .now) _ (c .before .before .measure-read .ensures) (c .if1 .taken)
+returns c =
+    let a = c .before .before .before .before .before .args in
+    refuses (headIn (a .form)) (Spells (a .form)) (reads (a .form)) wordsOf (a .text .now) (a .words .now) _ (c .before .before .measure-read .ensures) (c .if1 .taken)
 
 returns-2 : tie.Need-returns-2
-returns-2 c = short (headIn (c .before .before .before .before .before .before .before .args .form)) (Spells (c .before .before .before .before .before .before .before .args .form)) (reads (c .before .before .before .before .before .before .before .args .form)) wordsOf (c .before .before .before .before .before .before .before .args .text .now) (c .before .before .before .before .before .before .before .args .words .now) _ (c .before .before .before .before .measure-read .ensures) (c .before .before .if1 .left) (c .if2 .taken)
+returns-2 c =
+    let a = c .before .before .before .before .before .before .before .args in
+    short (headIn (a .form)) (Spells (a .form)) (reads (a .form)) wordsOf (a .text .now) (a .words .now) _ (c .before .before .before .before .measure-read .ensures) (c .before .before .if1 .left) (c .if2 .taken)
 
 fill-read-requires : tie.Need-fill-read-requires
-fill-read-requires c κs = (roomy (headIn (c .before .before .before .before .before .before .before .before .args .form)) (Spells (c .before .before .before .before .before .before .before .before .args .form)) (reads (c .before .before .before .before .before .before .before .before .args .form)) wordsOf (c .before .before .before .before .before .before .before .before .args .text .now) (c .before .before .before .before .before .before .before .before .args .words .now) _ (c .before .before .before .before .before .measure-read .ensures) (c .before .before .before .if1 .left) (c .before .if2 .left)) .0
+fill-read-requires c κs =
+    let a = c .before .before .before .before .before .before .before .before .args in
+    (c .before .before .before .before .before .before .before .before .pre .0, (roomy (headIn (a .form)) (Spells (a .form)) (reads (a .form)) wordsOf (a .text .now) (a .words .now) _ (c .before .before .before .before .before .measure-read .ensures) (c .before .before .before .if1 .left) (c .before .if2 .left)) .0)
 
 same-length : tie.Need-same-length
 same-length c = search needs
 
 returns-3 : tie.Need-returns-3
-returns-3 c = ((roomy (headIn (c .before .before .before .before .before .before .before .before .before .before .before .args .form)) (Spells (c .before .before .before .before .before .before .before .before .before .before .before .args .form)) (reads (c .before .before .before .before .before .before .before .before .before .before .before .args .form)) wordsOf (c .before .before .before .before .before .before .before .before .before .before .before .args .text .now) (c .before .before .before .before .before .before .before .before .before .before .before .args .words .now) _ (c .before .before .before .before .before .before .before .before .measure-read .ensures) (c .before .before .before .before .before .before .if1 .left) (c .before .before .before .before .if2 .left)) .1, c .before .before .fill-read .ensures)
+returns-3 c =
+    let a = c .before .before .before .before .before .before .before .before .before .before .before .args in
+    ((roomy (headIn (a .form)) (Spells (a .form)) (reads (a .form)) wordsOf (a .text .now) (a .words .now) _ (c .before .before .before .before .before .before .before .before .measure-read .ensures) (c .before .before .before .before .before .before .if1 .left) (c .before .before .before .before .if2 .left)) .1, c .before .before .fill-read .ensures)
 
 pub read-in-spec : {M : Type 1} → statement M
 read-in-spec =

@@ -1,0 +1,24 @@
+use mathlib.Core.Path.{sym}
+use borrow.Author.Tests.{lt-ltb, le-ltb}
+use borrow.Author.Needs.{needs}
+use Rattle.alphabet.proofs.pair_in.Statement.{statement}
+use Rattle.alphabet.proofs.pair_in.Tie as tie
+
+returns : tie.Need-returns
+returns c = sym (simp (lt-ltb _ _ (c .if1 .taken)))
+
+cast-square-in : tie.Need-cast-square-in
+cast-square-in c = search needs
+
+column-of-requires : tie.Need-column-of-requires
+column-of-requires c κs = search needs
+
+square-in-requires : tie.Need-square-in-requires
+square-in-requires c κs = search needs
+
+returns-2 : tie.Need-returns-2
+returns-2 c = rw (le-ltb _ 0x80000000 (c .before .before .if1 .left), sym (c .before .column-of .ensures)) (c .square-in .ensures)
+
+pub pair-in-spec : {M : Type 1} → statement M
+pair-in-spec =
+    tie.close (tie.spec returns cast-square-in column-of-requires square-in-requires returns-2)

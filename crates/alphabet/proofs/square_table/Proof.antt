@@ -1,0 +1,11 @@
+use borrow.Author.Needs.{needs}
+use Rattle.alphabet.specs.Lent.{squareTable}
+use Rattle.alphabet.proofs.square_table.Statement.{statement}
+use Rattle.alphabet.proofs.square_table.Tie as tie
+
+returns : tie.Need-returns
+unfolding squareTable
+returns c = search needs
+
+pub square-table-spec : {M : Type 1} → statement M
+square-table-spec = tie.close (tie.spec returns)

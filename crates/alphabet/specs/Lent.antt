@@ -1,0 +1,55 @@
+-- The tables that a reader of whole texts is lent, made once a call, and what is found in one. What is found goes by the table's entries alone.
+-- Assumes nothing.
+use Prim.Native.Nat.{ℕ, _+_, _-_}
+use mathlib.Core.List.{List, [], map}
+use lib.Dec.{leb, ltb}
+use lib.ListN.{getD}
+use Rattle.run.specs.Choice.{pick}
+use Rattle.alphabet.specs.declared.Form.{Form}
+use Rattle.alphabet.specs.declared.Sort.{Sort}
+use Rattle.alphabet.specs.declared.Sort.the-variants.{Graphic, Mark, Underline, Shift, Control, SequenceStart, Refused}
+use Rattle.alphabet.specs.Tables.{consecutive}
+use Rattle.alphabet.specs.Squares.{number, squareOf, rowOf, columnOf, marks, followers}
+use Rattle.alphabet.specs.Sorts.{sortIn}
+
+-- ---- "13 marks by 53 followers"
+
+unfoldable pub squareTable : List (List ℕ)
+unfolding squareOf marks followers
+squareTable = map (λ m. map (λ l. number (squareOf m l)) followers) marks
+
+-- an entry of a table of squares: 0 past the table
+abbrev pub squareIn : List (List ℕ) → ℕ → ℕ → ℕ
+squareIn table r c = pick (leb 13 r) 0 (pick (leb 53 c) 0 (getD (getD table r []) c 0))
+
+-- ---- what each octet is by itself, as one number
+
+-- a spacing character is its code point; from here on there is none
+abbrev pub noCharacter : ℕ
+noCharacter = 0x80000000
+
+-- neither a spacing character nor a mark: the number of rows
+abbrev pub neither : ℕ
+neither = noCharacter + 13
+
+-- a mark is its row
+abbrev pub codeOf : Sort → ℕ
+codeOf (Graphic c) = c
+codeOf (Mark m) = noCharacter + rowOf m
+codeOf Underline = neither
+codeOf Shift = neither
+codeOf Control = neither
+codeOf SequenceStart = neither
+codeOf (Refused n) = neither
+
+unfoldable pub codeTable : Form → List ℕ
+unfolding sortIn rowOf
+codeTable f = map (λ o. codeOf (sortIn f o)) (consecutive 0x00 256)
+
+-- an entry of such a table: neither past it
+abbrev pub codeIn : List ℕ → ℕ → ℕ
+codeIn table octet = pick (ltb octet 256) (getD table octet 0) neither
+
+-- the character of a mark's code and a follower: 0 where there is none
+abbrev pub pairIn : List (List ℕ) → ℕ → ℕ → ℕ
+pairIn table code follower = pick (ltb code noCharacter) 0 (squareIn table (code - noCharacter) (columnOf follower))

@@ -1,0 +1,47 @@
+use native.Mathlib.Omega.{arith}
+use lib.ListN.{drop, length-drop}
+use borrow.Author.Needs.{needs}
+use Rattle.text.proofs.Lent.{no-pair, pair-here}
+use Rattle.text.proofs.pair_at.Statement.{statement}
+use Rattle.text.proofs.pair_at.Tie as tie
+
+sub-if1 : tie.Need-sub-if1
+sub-if1 c = search needs
+
+returns : tie.Need-returns
+returns c =
+    let a = c .before .before .args in
+    no-pair (a .codes .now) (a .squares .now) (drop (a .at) (a .text .now)) (omega (arith, length-drop (a .at) (a .text .now), c .if1 .taken))
+
+shared-slice-read-code-in : tie.Need-shared-slice-read-code-in
+shared-slice-read-code-in c = search needs
+
+code-in-requires : tie.Need-code-in-requires
+code-in-requires c κs = search needs
+
+add-pair-in : tie.Need-add-pair-in
+add-pair-in c = search needs
+
+shared-slice-read-pair-in : tie.Need-shared-slice-read-pair-in
+shared-slice-read-pair-in c = search needs
+
+pair-in-requires : tie.Need-pair-in-requires
+pair-in-requires c κs = search needs
+
+returns-2 : tie.Need-returns-2
+returns-2 c =
+    let a = c .before .before .before .before .before .before .args in
+    pair-here (a .codes .now) (a .squares .now) (a .text .now) (a .at) _ _ (omega (arith, c .before .before .before .before .if1 .left)) (c .before .before .code-in .ensures) (c .pair-in .ensures)
+
+pub pair-at-spec : {M : Type 1} → statement M
+pair-at-spec =
+    tie.close
+    (tie.spec
+    sub-if1
+    returns
+    shared-slice-read-code-in
+    code-in-requires
+    add-pair-in
+    shared-slice-read-pair-in
+    pair-in-requires
+    returns-2)
