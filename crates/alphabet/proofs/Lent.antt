@@ -22,8 +22,6 @@ use Rattle.alphabet.specs.Squares.{squareOf, rowOf, columnOf}
 use Rattle.alphabet.specs.Forms.{alphabetOf}
 use Rattle.alphabet.specs.Sorts.{sortIn}
 use Rattle.alphabet.specs.Lent.{squareTable, squareIn, noCharacter, neither, codeOf, codeTable, codeIn, pairIn}
-use Rattle.alphabet.specs.Spelling.{Codes}
-use Rattle.alphabet.proofs.Facts.{code-point-small}
 use Rattle.alphabet.proofs.Pairs.{filled}
 use Rattle.alphabet.proofs.Sorted.{sort-says}
 
@@ -52,7 +50,7 @@ graphic-of Control h = absurd (omega arith)
 graphic-of SequenceStart h = absurd (omega arith)
 graphic-of (Refused k) h = absurd (omega arith)
 
--- a code below 2^31: the octet is a graphic, that character
+-- a code below 2^15: the octet is a graphic, that character
 pub graphic-code : (f : Form) (o : ℕ) → codeIn (codeTable f) o < noCharacter → sortIn f o ≡ Graphic (codeIn (codeTable f) o)
 graphic-code f o h =
     let past : 256 ≤ o → ⊥ = λ k. let e = no-octet f o k in omega arith in
@@ -70,6 +68,16 @@ mark-test Basic = refl
 -- a mark is an octet
 mark-small : (f : Form) (o m : ℕ) → sortIn f o ≡ Mark m → m < 256
 mark-small f o m e = ltb-true m 256 (at-member (λ cell. ltb (meaning cell) 256) (λ cell. true) (sort-says f o (Mark m) e) (mark-test f))
+
+graphic-test : (f : Form) → map (λ cell. ltb (meaning cell) noCharacter) (alphabetOf f .graphics) ≡ map (λ cell. true) (alphabetOf f .graphics)
+unfolding alphabetOf
+graphic-test Eight = refl
+graphic-test Seven = refl
+graphic-test Basic = refl
+
+-- a spacing character's code point has fifteen bits
+graphic-small : (f : Form) (o c : ℕ) → sortIn f o ≡ Graphic c → c < noCharacter
+graphic-small f o c e = ltb-true c noCharacter (at-member (λ cell. ltb (meaning cell) noCharacter) (λ cell. true) (sort-says f o (Graphic c) e) (graphic-test f))
 
 -- a follower that has a column is an octet
 column-small : (l : ℕ) → columnOf l < 53 → l < 256
@@ -103,7 +111,7 @@ module _ (f : Form) (o l c : ℕ) (some : c ≡ 0 → ⊥) where
   listed-by (Mark m) q e =
       let r : noCharacter + rowOf m - noCharacter ≡ rowOf m = omega arith in
       in-row m q (e ∙ simp (le-ltb (noCharacter + rowOf m) noCharacter (omega arith), r))
-  listed-by (Graphic k) q e = absurd (some (e ∙ simp (lt-ltb k noCharacter (omega (arith, code-point-small f k (Codes.one q))))))
+  listed-by (Graphic k) q e = absurd (some (e ∙ simp (lt-ltb k noCharacter (graphic-small f o k q))))
   listed-by Underline q e = absurd (some e)
   listed-by Shift q e = absurd (some e)
   listed-by Control q e = absurd (some e)

@@ -26,7 +26,7 @@ squareIn table r c = pick (leb 13 r) 0 (pick (leb 53 c) 0 (getD (getD table r []
 
 -- a spacing character is its code point; from here on there is none
 abbrev pub noCharacter : ℕ
-noCharacter = 0x80000000
+noCharacter = 0x8000
 
 -- neither a spacing character nor a mark: the number of rows
 abbrev pub neither : ℕ

@@ -83,6 +83,13 @@ pub fn form_of(number: u32) -> FormFound
     }
 }
 
+// An entry of a table as a character: the tables hold sixteen bits each, as a table is copied whole.
+fn wide(x: u16) -> u32
+    ensures { λ r. ⌜ r ≡ x ⌝ }
+{
+    x as u32
+}
+
 // An entry of a table of characters, of which 0 is none.
 fn graphic(x: u32) -> Sort
     ensures { λ r. ⌜ r ≡ entry x ⌝ }
@@ -100,7 +107,7 @@ fn upper_at(i: usize) -> u32
     if 96 <= i {
         return 0;
     }
-    supplementary::SUPPLEMENTARY[i]
+    wide(supplementary::SUPPLEMENTARY[i])
 }
 
 // The spacing character of a supplementary octet.
@@ -271,14 +278,14 @@ fn column_of(follower: u8) -> usize
 }
 
 // The table of squares, to be lent: made once for a whole text, as a look-up in a constant copies the whole of it.
-pub fn square_table() -> [[u32; 53]; 13]
+pub fn square_table() -> [[u16; 53]; 13]
     ensures { λ r. ⌜ r ≡ squareTable ⌝ }
 {
     squares::SQUARES
 }
 
 // An entry of a lent table of squares: 0 where the square is empty, or past the table.
-fn square_in(table: &[[u32; 53]; 13], row: usize, column: usize) -> u32
+fn square_in(table: &[[u16; 53]; 13], row: usize, column: usize) -> u32
     ensures { λ r. ⌜ r ≡ squareIn (now (table .entry)) row column ⌝ }
 {
     if 13 <= row {
@@ -287,7 +294,7 @@ fn square_in(table: &[[u32; 53]; 13], row: usize, column: usize) -> u32
     if 53 <= column {
         return 0;
     }
-    table[row][column]
+    wide(table[row][column])
 }
 
 // The character of a mark, as its octet in the eight-bit forms, and a follower.
@@ -303,7 +310,7 @@ pub fn paired(mark: u8, follower: u8) -> Found
 }
 
 // The table of what each octet of a form is by itself, to be lent: made once for a whole text.
-pub fn code_table(form: Form) -> [u32; 256]
+pub fn code_table(form: Form) -> [u16; 256]
     ensures { λ r. ⌜ r ≡ codeTable form ⌝ }
 {
     match form {
@@ -313,21 +320,21 @@ pub fn code_table(form: Form) -> [u32; 256]
     }
 }
 
-// What an octet is by itself, by a lent table: a spacing character below 2^31, and from there on none.
-pub fn code_in(table: &[u32; 256], octet: u8) -> u32
+// What an octet is by itself, by a lent table: a spacing character below 2^15, and from there on none.
+pub fn code_in(table: &[u16; 256], octet: u8) -> u32
     ensures { λ r. ⌜ r ≡ codeIn (now (table .entry)) octet ⌝ }
 {
-    table[octet as usize]
+    wide(table[octet as usize])
 }
 
 // The character of a mark, as `code_in` gave it, and a follower, by a lent table: 0 where there is none.
-pub fn pair_in(table: &[[u32; 53]; 13], code: u32, follower: u8) -> u32
+pub fn pair_in(table: &[[u16; 53]; 13], code: u32, follower: u8) -> u32
     ensures { λ r. ⌜ r ≡ pairIn (now (table .entry)) code follower ⌝ }
 {
-    if code < 0x80000000 {
+    if code < 0x8000 {
         return 0;
     }
-    square_in(table, (code - 0x80000000) as usize, column_of(follower))
+    square_in(table, (code - 0x8000) as usize, column_of(follower))
 }
 
 // The mark and the follower of a square, counted row by row.

@@ -1,5 +1,5 @@
 // The spacing characters of A0 to FF in forms 1 and 2. 0 is none: unallocated, or a mark.
-pub const SUPPLEMENTARY: [u32; 96] = [
+pub const SUPPLEMENTARY: [u16; 96] = [
     0x00A0,
     0x00A1,
     0x00A2,

@@ -60,13 +60,13 @@ fn refusal(step: Step, n: usize) -> Answer
 }
 
 // How many octets from `at` on, of `most` of them, are each a spacing character by itself.
-fn run_within(codes: &[u32; 256], text: &[u8], at: usize, most: usize) -> usize
+fn run_within(codes: &[u16; 256], text: &[u8], at: usize, most: usize) -> usize
     requires { ⌜ at + most ≤ length (now text) ⌝ }
     ensures { λ r. ⌜ r ≡ length (loneWords (now (codes .entry)) most (drop at (now (text .entry)))) ⌝ }
 {
     let mut i = 0;
     while i < most {
-        if 0x80000000 <= alphabet::code_in(codes, text[at + i]) {
+        if 0x8000 <= alphabet::code_in(codes, text[at + i]) {
             return i;
         }
         i += 1;
@@ -75,7 +75,7 @@ fn run_within(codes: &[u32; 256], text: &[u8], at: usize, most: usize) -> usize
 }
 
 // The same of sixteen octets, or of what is left of the text. A loop of known length costs three instructions an octet.
-fn lone_run(codes: &[u32; 256], text: &[u8], at: usize) -> usize
+fn lone_run(codes: &[u16; 256], text: &[u8], at: usize) -> usize
     requires { ⌜ at ≤ length (now text) ⌝ }
     ensures { λ r. ⌜ r ≡ length (loneWords (now (codes .entry)) 16 (drop at (now (text .entry)))) ⌝ }
 {
@@ -88,7 +88,7 @@ fn lone_run(codes: &[u32; 256], text: &[u8], at: usize) -> usize
 
 // Writes what `run_within` counts: each octet's character, from `o` on.
 fn put_within(
-    codes: &[u32; 256],
+    codes: &[u16; 256],
     text: &[u8],
     at: usize,
     words: &mut [u32],
@@ -102,7 +102,7 @@ fn put_within(
     let mut i = 0;
     while i < most {
         let w = alphabet::code_in(codes, text[at + i]);
-        if 0x80000000 <= w {
+        if 0x8000 <= w {
             return i;
         }
         words[o + i] = w;
@@ -112,7 +112,7 @@ fn put_within(
 }
 
 // Writes what `lone_run` counts.
-fn put_run(codes: &[u32; 256], text: &[u8], at: usize, words: &mut [u32], o: usize) -> usize
+fn put_run(codes: &[u16; 256], text: &[u8], at: usize, words: &mut [u32], o: usize) -> usize
     requires { ⌜ at ≤ length (now text) ⌝ }
     requires { ⌜ o + length (loneWords (now codes) 16 (drop at (now text))) ≤ length (now words) ⌝ }
     ensures { λ r. ⌜ (r ≡ length (loneWords (now (codes .entry)) 16 (drop at (now (text .entry))))) × Put (now (words .entry)) o (loneWords (now (codes .entry)) 16 (drop at (now (text .entry)))) (now (words .exit)) (o + r) ⌝ }
@@ -125,7 +125,7 @@ fn put_run(codes: &[u32; 256], text: &[u8], at: usize, words: &mut [u32], o: usi
 }
 
 // The character of the pair at a place, a mark and its listed follower: 0 where there is none.
-fn pair_at(codes: &[u32; 256], squares: &[[u32; 53]; 13], text: &[u8], at: usize) -> u32
+fn pair_at(codes: &[u16; 256], squares: &[[u16; 53]; 13], text: &[u8], at: usize) -> u32
     requires { ⌜ at ≤ length (now text) ⌝ }
     ensures { λ r. ⌜ r ≡ pairWord (now (codes .entry)) (now (squares .entry)) (drop at (now (text .entry))) ⌝ }
 {
@@ -137,7 +137,7 @@ fn pair_at(codes: &[u32; 256], squares: &[[u32; 53]; 13], text: &[u8], at: usize
 
 // The first pass of reading: the answer as with room enough. Spacing characters go by the run and pairs by the lent tables; what is neither
 // is read as an element.
-fn measure_read(form: Form, codes: &[u32; 256], squares: &[[u32; 53]; 13], text: &[u8]) -> Answer
+fn measure_read(form: Form, codes: &[u16; 256], squares: &[[u16; 53]; 13], text: &[u8]) -> Answer
     requires { ⌜ (now codes ≡ codeTable form) × (now squares ≡ squareTable) ⌝ }
     requires { ⌜ length (now text) ≤ limit ⌝ }
     ensures { λ r. ⌜ r ≡ measured wordsOf (length (now (text .entry))) (readIn form (now (text .entry))) ⌝ }
@@ -180,8 +180,8 @@ fn measure_read(form: Form, codes: &[u32; 256], squares: &[[u32; 53]; 13], text:
 // The second pass of reading, where the text is accepted and there is room.
 fn fill_read(
     form: Form,
-    codes: &[u32; 256],
-    squares: &[[u32; 53]; 13],
+    codes: &[u16; 256],
+    squares: &[[u16; 53]; 13],
     text: &[u8],
     words: &mut [u32],
 )
@@ -320,8 +320,8 @@ fn fill_convert(source: Form, target: Form, text: &[u8], out: &mut [u8])
 // Reads a text that is within the limit: measured first, and then filled in.
 fn read_in(
     form: Form,
-    codes: &[u32; 256],
-    squares: &[[u32; 53]; 13],
+    codes: &[u16; 256],
+    squares: &[[u16; 53]; 13],
     text: &[u8],
     words: &mut [u32],
 ) -> Answer

@@ -17,7 +17,7 @@ square-in-requires : tie.Need-square-in-requires
 square-in-requires c κs = search needs
 
 returns-2 : tie.Need-returns-2
-returns-2 c = rw (le-ltb _ 0x80000000 (c .before .before .if1 .left), sym (c .before .column-of .ensures)) (c .square-in .ensures)
+returns-2 c = rw (le-ltb _ 0x8000 (c .before .before .if1 .left), sym (c .before .column-of .ensures)) (c .square-in .ensures)
 
 pub pair-in-spec : {M : Type 1} → statement M
 pair-in-spec =
