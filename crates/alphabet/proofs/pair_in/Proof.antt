@@ -5,7 +5,7 @@ use Rattle.alphabet.proofs.pair_in.Statement.{statement}
 use Rattle.alphabet.proofs.pair_in.Tie as tie
 
 returns : tie.Need-returns
-returns c = sym (simp (lt-ltb _ _ (c .if1 .taken)))
+returns c = sym (simp (lt-ltb _ 0x8000 (c .if1 .taken)))
 
 cast-square-in : tie.Need-cast-square-in
 cast-square-in c = search needs

@@ -1,4 +1,5 @@
 use Prim.Native.Nat.{_-_}
+use native.Mathlib.Omega.{arith}
 use borrow.Author.Needs.{needs}
 use Rattle.text.proofs.Lent.{Run, run-start, run-end, run-stop, run-more, run-size}
 use Rattle.text.proofs.run_within.Statement.{statement}
@@ -27,7 +28,7 @@ returns c =
     let a = c .before .before .before .before .before .before .args in
     let i = c .before .before .before .before .loop in
     run-size (a .codes .now) (a .text .now) (a .at) (a .most) (i .i) (i .inv)
-    (run-stop (a .codes .now) (a .text .now) (a .at) (a .most) (i .i) (i .inv) (c .before .before .before .loop-test .taken) (c .before .before .before .before .before .before .pre) _ (c .before .code-in .ensures) (c .if1 .taken))
+    (run-stop (a .codes .now) (a .text .now) (a .at) (a .most) (i .i) (i .inv) (c .before .before .before .loop-test .taken) (c .before .before .before .before .before .before .pre) _ (c .before .code-in .ensures) (omega (arith, c .if1 .taken)))
 
 add-i : tie.Need-add-i Inv-loop μ-loop
 add-i c = search needs
