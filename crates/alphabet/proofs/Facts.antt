@@ -17,10 +17,11 @@ use Rattle.alphabet.specs.declared.Sort.the-variants.{Graphic, Mark, Und
 use Rattle.alphabet.specs.declared.Found.{Found}
 use Rattle.alphabet.specs.declared.Found.the-variants.{Char, Nothing}
 use Rattle.alphabet.specs.declared.Spelling.{Spelling}
-use Rattle.alphabet.specs.Cells.{_is_, octet, meaning}
+use Rattle.alphabet.specs.Cells.{meaning}
 use Rattle.alphabet.specs.Squares.{Square, sq, character, squares, squareOf}
 use Rattle.alphabet.specs.Forms.{alphabetOf, SS2}
 use Rattle.alphabet.specs.Sorts.{sortIn, shiftedIn}
+use Rattle.alphabet.specs.Lent.{noCharacter}
 use Rattle.alphabet.specs.Spelling.{Codes}
 use Rattle.alphabet.proofs.Table.{filled-member}
 use Rattle.alphabet.proofs.Sorted.{sort-says, shifted-says}
@@ -135,7 +136,7 @@ control-test Basic = refl
 pub control-small : (f : Form) (o : ℕ) → sortIn f o ≡ Control → o < 0x100
 control-small f o e = ltb-true o 0x100 (at-member (λ o. ltb o 0x100) (λ o. true) (sort-says f o Control e) (control-test f))
 
-graphic-test : (f : Form) → map (λ cell. ltb (meaning cell) 0x10000) (alphabetOf f .graphics) ≡ map (λ cell. true) (alphabetOf f .graphics)
+graphic-test : (f : Form) → map (λ cell. ltb (meaning cell) noCharacter) (alphabetOf f .graphics) ≡ map (λ cell. true) (alphabetOf f .graphics)
 unfolding alphabetOf
 graphic-test Eight = refl
 graphic-test Seven = refl
@@ -147,6 +148,10 @@ shifted-graphic-test Eight = refl
 shifted-graphic-test Seven = refl
 shifted-graphic-test Basic = refl
 
+-- a spacing character that is one octet has fifteen bits
+pub graphic-small : (f : Form) (o c : ℕ) → sortIn f o ≡ Graphic c → c < noCharacter
+graphic-small f o c e = ltb-true c noCharacter (at-member (λ cell. ltb (meaning cell) noCharacter) (λ cell. true) (sort-says f o (Graphic c) e) (graphic-test f))
+
 square-test : map (λ s. ltb (character s) 0x10000) squares ≡ map (λ s. true) squares
 unfolding squares
 square-test = refl
@@ -156,7 +161,7 @@ square-small m l c e = ltb-true c 0x10000 (at-member (λ s. ltb (character s) 0x
 
 -- a character's code point has sixteen bits
 pub code-point-small : (f : Form) (c : ℕ) {x : Spelling} → Codes f c x → c < 0x10000
-code-point-small f c (Codes.one {o} e) = ltb-true c 0x10000 (at-member (λ cell. ltb (meaning cell) 0x10000) (λ cell. true) (sort-says f o (Graphic c) e) (graphic-test f))
+code-point-small f c (Codes.one {o} e) = omega (arith, graphic-small f o c e)
 code-point-small f c (Codes.shifted {o} s e) = ltb-true c 0x10000 (at-member (λ cell. ltb (meaning cell) 0x10000) (λ cell. true) (shifted-says f o (Graphic c) e) (shifted-graphic-test f))
 code-point-small f c (Codes.pair {m = m} {l} e q) = square-small m l c q
 code-point-small f c (Codes.shifted-pair {m = m} {l} s e q) = square-small m l c q

@@ -1,8 +1,8 @@
 -- What a lent table's entries say of the form: what a reader above relies on, who looks into no table itself.
 -- Assumes nothing.
 use Prim.Native.Nat.{ℕ, zero, suc, _+_, _-_, _≤_, _<_}
-use mathlib.Core.Path.{_≡_, refl, sym, ap, ap₂, _∙_}
-use mathlib.Core.List.{List, [], _∷_, map}
+use mathlib.Core.Path.{_≡_, refl, sym, ap, _∙_}
+use mathlib.Core.List.{List, [], map}
 use mathlib.Core.Bool.{Bool, true, false}
 use native.Mathlib.Nat.{add-zero, add-suc, suc-add, le-of-suc-le-suc, not-suc-le-zero}
 use native.Mathlib.Omega.{arith}
@@ -18,10 +18,11 @@ use Rattle.alphabet.specs.declared.Sort.the-variants.{Graphic, Mark, Und
 use Rattle.alphabet.specs.declared.Found.the-variants.{Char}
 use Rattle.alphabet.specs.Cells.{meaning}
 use Rattle.alphabet.specs.Tables.{consecutive}
-use Rattle.alphabet.specs.Squares.{squareOf, rowOf, columnOf}
+use Rattle.alphabet.specs.Squares.{squareOf, rowOf, columnOf, squareTable}
 use Rattle.alphabet.specs.Forms.{alphabetOf}
 use Rattle.alphabet.specs.Sorts.{sortIn}
-use Rattle.alphabet.specs.Lent.{squareTable, squareIn, noCharacter, neither, codeOf, codeTable, codeIn, pairIn}
+use Rattle.alphabet.specs.Lent.{squareIn, noCharacter, neither, codeOf, codeTable, codeIn, pairedIn}
+use Rattle.alphabet.proofs.Facts.{graphic-small}
 use Rattle.alphabet.proofs.Pairs.{filled}
 use Rattle.alphabet.proofs.Sorted.{sort-says}
 
@@ -69,16 +70,6 @@ mark-test Basic = refl
 mark-small : (f : Form) (o m : ℕ) → sortIn f o ≡ Mark m → m < 256
 mark-small f o m e = ltb-true m 256 (at-member (λ cell. ltb (meaning cell) 256) (λ cell. true) (sort-says f o (Mark m) e) (mark-test f))
 
-graphic-test : (f : Form) → map (λ cell. ltb (meaning cell) noCharacter) (alphabetOf f .graphics) ≡ map (λ cell. true) (alphabetOf f .graphics)
-unfolding alphabetOf
-graphic-test Eight = refl
-graphic-test Seven = refl
-graphic-test Basic = refl
-
--- a spacing character's code point has fifteen bits
-graphic-small : (f : Form) (o c : ℕ) → sortIn f o ≡ Graphic c → c < noCharacter
-graphic-small f o c e = ltb-true c noCharacter (at-member (λ cell. ltb (meaning cell) noCharacter) (λ cell. true) (sort-says f o (Graphic c) e) (graphic-test f))
-
 -- a follower that has a column is an octet
 column-small : (l : ℕ) → columnOf l < 53 → l < 256
 unfolding columnOf
@@ -107,7 +98,7 @@ module _ (f : Form) (o l c : ℕ) (some : c ≡ 0 → ⊥) where
   in-row m q e =
       record { mark = m; sorts = q; square = sym (filled m l (rowOf m) (columnOf l) c refl refl e (mark-small f o m q) (column-small l (column-inside squareTable (rowOf m) (columnOf l) (λ z. some (e ∙ z)))) some) }
 
-  listed-by : (s : Sort) → sortIn f o ≡ s → c ≡ pairIn squareTable (codeOf s) l → Listed f o l c
+  listed-by : (s : Sort) → sortIn f o ≡ s → c ≡ pairedIn squareTable (codeOf s) l → Listed f o l c
   listed-by (Mark m) q e =
       let r : noCharacter + rowOf m - noCharacter ≡ rowOf m = omega arith in
       in-row m q (e ∙ simp (le-ltb (noCharacter + rowOf m) noCharacter (omega arith), r))
@@ -119,7 +110,7 @@ module _ (f : Form) (o l c : ℕ) (some : c ≡ 0 → ⊥) where
   listed-by (Refused n) q e = absurd (some e)
 
   -- a pair's character that is not 0: the octet is a mark, and the follower is listed
-  pub pair-code : c ≡ pairIn squareTable (codeIn (codeTable f) o) l → Listed f o l c
+  pub pair-code : c ≡ pairedIn squareTable (codeIn (codeTable f) o) l → Listed f o l c
   pair-code e =
-      let past : 256 ≤ o → ⊥ = λ k. some (e ∙ ap (λ (x : ℕ). pairIn squareTable x l) (no-octet f o k)) in
-      listed-by (sortIn f o) refl (e ∙ ap (λ (x : ℕ). pairIn squareTable x l) (at-octet f o (omega (arith, past))))
+      let past : 256 ≤ o → ⊥ = λ k. some (e ∙ ap (λ (x : ℕ). pairedIn squareTable x l) (no-octet f o k)) in
+      listed-by (sortIn f o) refl (e ∙ ap (λ (x : ℕ). pairedIn squareTable x l) (at-octet f o (omega (arith, past))))

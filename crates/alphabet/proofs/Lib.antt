@@ -1,4 +1,4 @@
-mod Grid
+mod Upper
 mod Pairs
 mod Spacings
 mod Spellings

@@ -13,14 +13,14 @@ use Rattle.run.proofs.Search.{filled as filled-entries, Left, goes-on, hits, at
 use Rattle.alphabet.specs.declared.Found.{Found}
 use Rattle.alphabet.specs.declared.Found.the-variants.{Char, Nothing}
 use Rattle.alphabet.specs.declared.Pairing.the-variants.{Nowhere}
-use Rattle.alphabet.specs.Lent.{squareTable, squareIn}
-use Rattle.alphabet.specs.Squares.{Square, sq, character, pairing, squares, pairIn, pairOf, squareOf, rowOf, columnOf, pairAt, marks, followers}
+use Rattle.alphabet.specs.Lent.{squareIn}
+use Rattle.alphabet.specs.Squares.{Square, sq, character, pairing, squares, pairIn, pairOf, squareOf, rowOf, columnOf, pairAt, marks, followers, squareTable}
 
 -- an entry of the table of the code
 abbrev pub entryAt : ℕ → ℕ → ℕ
 entryAt r c = squareIn squareTable r c
 
--- what `square_in` gave of what `square_table` gave
+-- what `square_in` gave of a table that is that
 pub entry-of : {x : ℕ} (table : List (List ℕ)) (r c : ℕ) → table ≡ squareTable → x ≡ squareIn table r c → x ≡ entryAt r c
 entry-of table r c q e = e ∙ ap (λ (t : List (List ℕ)). squareIn t r c) q
 

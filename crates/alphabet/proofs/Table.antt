@@ -19,8 +19,7 @@ use Rattle.alphabet.specs.declared.Pairing.{Pairing}
 use Rattle.alphabet.specs.declared.Pairing.the-variants.{Of, Nowhere}
 use Rattle.alphabet.specs.Cells.{Cell, _is_, octet, meaning, octetIn}
 use Rattle.alphabet.specs.Tables.{Row, row, rows, supplementary}
-use Rattle.alphabet.specs.Lent.{squareTable}
-use Rattle.alphabet.specs.Squares.{Square, sq, character, pairing, markOf, cellsOf, cellsIn, inRow, squaresIn, squares, squareOf, pairOf, marks, followers}
+use Rattle.alphabet.specs.Squares.{Square, sq, character, pairing, markOf, cellsOf, cellsIn, inRow, squaresIn, squares, squareOf, pairOf, marks, followers, squareTable}
 use Rattle.alphabet.proofs.Pairs.{placeEntry, squareAt, squares-test}
 use Rattle.alphabet.proofs.Spellings.{pair-hit}
 

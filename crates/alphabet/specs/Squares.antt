@@ -73,10 +73,14 @@ marks = map markOf letters
 unfoldable pub followers : List ℕ
 followers = consecutive 0x41 26 ++ consecutive 0x61 26 ++ (0x20 ∷ [])
 
--- its entry at a row and a column: 0 is an empty square, and past the table
+-- a square as an entry of the table: 0 where it is empty
 abbrev pub number : Found → ℕ
 number (Char c) = c
 number Nothing = 0
+
+unfoldable pub squareTable : List (List ℕ)
+unfolding squareOf marks followers
+squareTable = map (λ m. map (λ l. number (squareOf m l)) followers) marks
 
 -- the mark and the follower at a place, counted row by row
 unfoldable pub pairAt : ℕ → Pairing

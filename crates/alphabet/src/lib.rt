@@ -6,10 +6,10 @@ mod supplementary;
 ghost use mathlib.Core.Path.{_≡_};
 ghost use Rattle.alphabet.specs.Cells.{octetIn};
 ghost use Rattle.alphabet.specs.Tables.{supplementary};
-ghost use Rattle.alphabet.specs.Squares.{squareOf, pairOf, rowOf, columnOf, pairAt};
+ghost use Rattle.alphabet.specs.Squares.{squareOf, pairOf, rowOf, columnOf, pairAt, squareTable};
 ghost use Rattle.alphabet.specs.Forms.{formOf};
 ghost use Rattle.alphabet.specs.Sorts.{sortIn, shiftedIn, plainIn, entry, upperAt, spacingOf};
-ghost use Rattle.alphabet.specs.Lent.{squareTable, squareIn, codeTable, codeIn, pairIn};
+ghost use Rattle.alphabet.specs.Lent.{squareIn, codeTable, codeIn, pairedIn};
 ghost use Rattle.alphabet.specs.Spelling.{spellIn, asciiOctet, plainOctet, spellSpacing, spellPair};
 
 // The three forms of text: T51String in eight bits and in seven, basic T.61.
@@ -83,7 +83,7 @@ pub fn form_of(number: u32) -> FormFound
     }
 }
 
-// An entry of a table as a character: the tables hold sixteen bits each, as a table is copied whole.
+// An entry of a table as a character. Tables hold sixteen bits, as a look-up in a constant copies the whole of it.
 fn wide(x: u16) -> u32
     ensures { λ r. ⌜ r ≡ x ⌝ }
 {
@@ -309,6 +309,9 @@ pub fn paired(mark: u8, follower: u8) -> Found
     Found::Char(x)
 }
 
+// What an octet is by itself, as one number: a spacing character's code point; from here on a mark's row, and 13 where it is neither.
+pub const NO_CHARACTER: u32 = 0x8000;
+
 // The table of what each octet of a form is by itself, to be lent: made once for a whole text.
 pub fn code_table(form: Form) -> [u16; 256]
     ensures { λ r. ⌜ r ≡ codeTable form ⌝ }
@@ -320,7 +323,7 @@ pub fn code_table(form: Form) -> [u16; 256]
     }
 }
 
-// What an octet is by itself, by a lent table: a spacing character below 2^15, and from there on none.
+// What an octet is by itself, by a lent table.
 pub fn code_in(table: &[u16; 256], octet: u8) -> u32
     ensures { λ r. ⌜ r ≡ codeIn (now (table .entry)) octet ⌝ }
 {
@@ -328,13 +331,13 @@ pub fn code_in(table: &[u16; 256], octet: u8) -> u32
 }
 
 // The character of a mark, as `code_in` gave it, and a follower, by a lent table: 0 where there is none.
-pub fn pair_in(table: &[[u16; 53]; 13], code: u32, follower: u8) -> u32
-    ensures { λ r. ⌜ r ≡ pairIn (now (table .entry)) code follower ⌝ }
+pub fn paired_in(table: &[[u16; 53]; 13], code: u32, follower: u8) -> u32
+    ensures { λ r. ⌜ r ≡ pairedIn (now (table .entry)) code follower ⌝ }
 {
-    if code < 0x8000 {
+    if code < NO_CHARACTER {
         return 0;
     }
-    square_in(table, (code - 0x8000) as usize, column_of(follower))
+    square_in(table, (code - NO_CHARACTER) as usize, column_of(follower))
 }
 
 // The mark and the follower of a square, counted row by row.
@@ -354,7 +357,7 @@ fn find_pair(c: u32) -> Pairing
     if c == 0 {
         return Pairing::Nowhere;
     }
-    let table = squares::SQUARES;
+    let table = squares::SQUARES; // copied once for the search
     let mut i: usize = 0;
     while i < 689 {
         if square_in(&table, i / 53, i % 53) == c {

@@ -146,6 +146,10 @@ module _ {A : Type 0} (head : List ℕ → Head A) (S : List ℕ → A → Type 
     pub fill-length : length l ≡ length l₀
     fill-length = put-length (was .put)
 
+    -- the place stays within the buffer
+    pub fill-small : o ≤ length l₀
+    fill-small = omega (arith, was .put .place, room-front gives (was .es) at (length l₀) (outcome head (drop at s)) (rw (was .passed .sofar) at room))
+
     pub fill-onward : (e : A) (k : ℕ) → head (drop at s) ≡ element e k → (0 < k) × (at + k ≤ length s)
     fill-onward = onward head S laws gives s at (was .es) (was .passed)
 

@@ -9,11 +9,12 @@ ghost use Prim.Native.Nat.{_+_, _≤_, _<_};
 ghost use lib.ListN.{length, drop};
 ghost use Rattle.run.specs.Answers.{bare, answerOf, writtenOf};
 ghost use Rattle.run.specs.Put.{Put};
-ghost use Rattle.alphabet.specs.Lent.{squareTable, codeTable};
+ghost use Rattle.alphabet.specs.Squares.{squareTable};
+ghost use Rattle.alphabet.specs.Lent.{codeTable};
 ghost use Rattle.element.specs.Words.{wordsOf};
 ghost use Rattle.element.specs.Reading.{stepAt};
 ghost use Rattle.text.specs.Outcomes.{readIn, writeIn, respellIn, convertIn};
-ghost use Rattle.text.specs.Lent.{loneWords, pairWord};
+ghost use Rattle.text.specs.Lent.{spacingWords, pairWord};
 ghost use Rattle.text.specs.Answers.{limit, same, measured, roomFor, refusedAs, measureAnswer, readAnswer, readWords, writeAnswer, writeText, convertAnswer, convertText, loneStep};
 
 // Reads the element at a place. A plain octet, which is itself the character, goes before any table is looked at.
@@ -59,14 +60,14 @@ fn refusal(step: Step, n: usize) -> Answer
     }
 }
 
-// How many octets from `at` on, of `most` of them, are each a spacing character by itself.
+// How many octets from `at` on, at most `most`, stand before the first that is no spacing character by itself.
 fn run_within(codes: &[u16; 256], text: &[u8], at: usize, most: usize) -> usize
     requires { ⌜ at + most ≤ length (now text) ⌝ }
-    ensures { λ r. ⌜ r ≡ length (loneWords (now (codes .entry)) most (drop at (now (text .entry)))) ⌝ }
+    ensures { λ r. ⌜ r ≡ length (spacingWords (now (codes .entry)) most (drop at (now (text .entry)))) ⌝ }
 {
     let mut i = 0;
     while i < most {
-        if 0x8000 <= alphabet::code_in(codes, text[at + i]) {
+        if alphabet::NO_CHARACTER <= alphabet::code_in(codes, text[at + i]) {
             return i;
         }
         i += 1;
@@ -74,10 +75,10 @@ fn run_within(codes: &[u16; 256], text: &[u8], at: usize, most: usize) -> usize
     i
 }
 
-// The same of sixteen octets, or of what is left of the text. A loop of known length costs three instructions an octet.
-fn lone_run(codes: &[u16; 256], text: &[u8], at: usize) -> usize
+// The same of sixteen octets, or of what is left of the text: a loop of known length, so that the compiler unrolls it.
+fn spacing_run(codes: &[u16; 256], text: &[u8], at: usize) -> usize
     requires { ⌜ at ≤ length (now text) ⌝ }
-    ensures { λ r. ⌜ r ≡ length (loneWords (now (codes .entry)) 16 (drop at (now (text .entry)))) ⌝ }
+    ensures { λ r. ⌜ r ≡ length (spacingWords (now (codes .entry)) 16 (drop at (now (text .entry)))) ⌝ }
 {
     let left = text.len() - at;
     if left < 16 {
@@ -96,13 +97,13 @@ fn put_within(
     most: usize,
 ) -> usize
     requires { ⌜ at + most ≤ length (now text) ⌝ }
-    requires { ⌜ o + length (loneWords (now codes) most (drop at (now text))) ≤ length (now words) ⌝ }
-    ensures { λ r. ⌜ (r ≡ length (loneWords (now (codes .entry)) most (drop at (now (text .entry))))) × Put (now (words .entry)) o (loneWords (now (codes .entry)) most (drop at (now (text .entry)))) (now (words .exit)) (o + r) ⌝ }
+    requires { ⌜ o + length (spacingWords (now codes) most (drop at (now text))) ≤ length (now words) ⌝ }
+    ensures { λ r. ⌜ (r ≡ length (spacingWords (now (codes .entry)) most (drop at (now (text .entry))))) × Put (now (words .entry)) o (spacingWords (now (codes .entry)) most (drop at (now (text .entry)))) (now (words .exit)) (o + r) ⌝ }
 {
     let mut i = 0;
     while i < most {
         let w = alphabet::code_in(codes, text[at + i]);
-        if 0x8000 <= w {
+        if alphabet::NO_CHARACTER <= w {
             return i;
         }
         words[o + i] = w;
@@ -111,11 +112,11 @@ fn put_within(
     i
 }
 
-// Writes what `lone_run` counts.
+// Writes what `spacing_run` counts.
 fn put_run(codes: &[u16; 256], text: &[u8], at: usize, words: &mut [u32], o: usize) -> usize
     requires { ⌜ at ≤ length (now text) ⌝ }
-    requires { ⌜ o + length (loneWords (now codes) 16 (drop at (now text))) ≤ length (now words) ⌝ }
-    ensures { λ r. ⌜ (r ≡ length (loneWords (now (codes .entry)) 16 (drop at (now (text .entry))))) × Put (now (words .entry)) o (loneWords (now (codes .entry)) 16 (drop at (now (text .entry)))) (now (words .exit)) (o + r) ⌝ }
+    requires { ⌜ o + length (spacingWords (now codes) 16 (drop at (now text))) ≤ length (now words) ⌝ }
+    ensures { λ r. ⌜ (r ≡ length (spacingWords (now (codes .entry)) 16 (drop at (now (text .entry))))) × Put (now (words .entry)) o (spacingWords (now (codes .entry)) 16 (drop at (now (text .entry)))) (now (words .exit)) (o + r) ⌝ }
 {
     let left = text.len() - at;
     if left < 16 {
@@ -132,7 +133,7 @@ fn pair_at(codes: &[u16; 256], squares: &[[u16; 53]; 13], text: &[u8], at: usize
     if text.len() - at < 2 {
         return 0;
     }
-    alphabet::pair_in(squares, alphabet::code_in(codes, text[at]), text[at + 1])
+    alphabet::paired_in(squares, alphabet::code_in(codes, text[at]), text[at + 1])
 }
 
 // The first pass of reading: the answer as with room enough. Spacing characters go by the run and pairs by the lent tables; what is neither
@@ -146,7 +147,7 @@ fn measure_read(form: Form, codes: &[u16; 256], squares: &[[u16; 53]; 13], text:
     let mut n = 0;
     let mut count = 0;
     while at < text.len() {
-        let k = lone_run(codes, text, at);
+        let k = spacing_run(codes, text, at);
         at += k;
         n += k;
         count += k;
@@ -175,6 +176,16 @@ fn measure_read(form: Form, codes: &[u16; 256], squares: &[[u16; 53]; 13], text:
         place: at,
         count,
     }
+}
+
+// Measures a text that is within the limit, by the tables of its form.
+fn measure_in(form: Form, text: &[u8]) -> Answer
+    requires { ⌜ length (now text) ≤ limit ⌝ }
+    ensures { λ r. ⌜ r ≡ measured wordsOf (length (now (text .entry))) (readIn form (now (text .entry))) ⌝ }
+{
+    let codes = alphabet::code_table(form);
+    let squares = alphabet::square_table();
+    measure_read(form, &codes, &squares, text)
 }
 
 // The second pass of reading, where the text is accepted and there is room.
@@ -318,18 +329,13 @@ fn fill_convert(source: Form, target: Form, text: &[u8], out: &mut [u8])
 }
 
 // Reads a text that is within the limit: measured first, and then filled in.
-fn read_in(
-    form: Form,
-    codes: &[u16; 256],
-    squares: &[[u16; 53]; 13],
-    text: &[u8],
-    words: &mut [u32],
-) -> Answer
-    requires { ⌜ (now codes ≡ codeTable form) × (now squares ≡ squareTable) ⌝ }
+fn read_in(form: Form, text: &[u8], words: &mut [u32]) -> Answer
     requires { ⌜ length (now text) ≤ limit ⌝ }
     ensures { λ r. ⌜ (r ≡ answerOf wordsOf (length (now (text .entry))) (length (now (words .entry))) (readIn form (now (text .entry)))) × (now (words .exit) ≡ writtenOf wordsOf (now (words .entry)) (readIn form (now (text .entry)))) ⌝ }
 {
-    let m = measure_read(form, codes, squares, text);
+    let codes = alphabet::code_table(form);
+    let squares = alphabet::square_table();
+    let m = measure_read(form, &codes, &squares, text);
     if m.number != 0 {
         return m;
     }
@@ -341,7 +347,7 @@ fn read_in(
             count: m.count,
         };
     }
-    fill_read(form, codes, squares, text, words);
+    fill_read(form, &codes, &squares, text, words);
     m
 }
 
@@ -390,9 +396,7 @@ fn convert_in(source: Form, target: Form, text: &[u8], out: &mut [u8]) -> Answer
     requires { ⌜ length (now text) ≤ limit ⌝ }
     ensures { λ r. ⌜ (r ≡ answerOf same (length (now (text .entry))) (length (now (out .entry))) (convertIn source target (now (text .entry)))) × (now (out .exit) ≡ writtenOf same (now (out .entry)) (convertIn source target (now (text .entry)))) ⌝ }
 {
-    let codes = alphabet::code_table(source);
-    let squares = alphabet::square_table();
-    let m = measure_read(source, &codes, &squares, text);
+    let m = measure_in(source, text);
     if m.number != 0 {
         return m;
     }
@@ -422,9 +426,7 @@ pub fn measure(form: u32, text: &[u8]) -> Answer
     if 1048576 < text.len() {
         return bare_refusal(12);
     }
-    let codes = alphabet::code_table(f);
-    let squares = alphabet::square_table();
-    measure_read(f, &codes, &squares, text)
+    measure_in(f, text)
 }
 
 // Reads a whole text. 01's order of refusals: 11, 12, reading, 9.
@@ -438,9 +440,7 @@ pub fn read(form: u32, text: &[u8], words: &mut [u32]) -> Answer
     if 1048576 < text.len() {
         return bare_refusal(12);
     }
-    let codes = alphabet::code_table(f);
-    let squares = alphabet::square_table();
-    read_in(f, &codes, &squares, text, words)
+    read_in(f, text, words)
 }
 
 // Writes a list of words. 01's order of refusals: 11, 12, 10, 9.

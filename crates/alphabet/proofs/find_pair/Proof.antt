@@ -1,6 +1,6 @@
+use Rattle.alphabet.specs.Squares.{squareTable}
 use Prim.Native.Nat.{_≤_, _-_, _/_, _%_}
 use mathlib.Core.Path.{refl, sym, _∙_}
-use Rattle.alphabet.specs.Lent.{squareTable}
 use native.Mathlib.Omega.{arith}
 use borrow.Author.Needs.{needs}
 use Rattle.alphabet.proofs.Pairs.{entry-of, Left-pair, pair-start, pair-on, pair-hit, pair-end, no-pair-at-0}

@@ -1,5 +1,5 @@
+use Rattle.alphabet.specs.Squares.{squareTable}
 use mathlib.Core.Path.{refl}
-use Rattle.alphabet.specs.Lent.{squareTable}
 use Rattle.alphabet.proofs.Pairs.{entry-of, empty, filled}
 use borrow.Author.Needs.{needs}
 use Rattle.alphabet.proofs.paired.Statement.{statement}

@@ -1,5 +1,5 @@
+use Rattle.alphabet.specs.Squares.{squareTable}
 use borrow.Author.Needs.{needs}
-use Rattle.alphabet.specs.Lent.{squareTable}
 use Rattle.alphabet.proofs.square_table.Statement.{statement}
 use Rattle.alphabet.proofs.square_table.Tie as tie
 

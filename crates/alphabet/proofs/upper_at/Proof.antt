@@ -1,5 +1,5 @@
 use mathlib.Core.Path.{_∙_}
-use Rattle.alphabet.proofs.Grid.{upper, in-upper, past-upper}
+use Rattle.alphabet.proofs.Upper.{upper, in-upper, past-upper}
 use borrow.Author.Needs.{needs}
 use Rattle.alphabet.proofs.upper_at.Statement.{statement}
 use Rattle.alphabet.proofs.upper_at.Tie as tie

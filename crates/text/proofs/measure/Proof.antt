@@ -30,18 +30,12 @@ returns-2 c =
     c .bare-refusal2 .ensures
     ∙ a-form _ _ _ _ _ (sym (c .before .before .before .before .before .form-of .ensures) ∙ c .before .before .before .found .given .1) (over (c .before .before .before .before .before .before .before .args .text .now) _ _ (c .before .if1 .taken))
 
-code-table-requires : tie.Need-code-table-requires
-code-table-requires c κs = search needs
-
-square-table-requires : tie.Need-square-table-requires
-square-table-requires c κs = search needs
-
-measure-read-requires : tie.Need-measure-read-requires
-measure-read-requires c κs = search needs
+measure-in-requires : tie.Need-measure-in-requires
+measure-in-requires c κs = search needs
 
 returns-3 : tie.Need-returns-3
 unfolding measureAnswer
-returns-3 c = a-form _ _ _ _ _ (sym (c .before .before .before .before .before .before .before .before .before .form-of .ensures) ∙ c .before .before .before .before .before .before .before .found .given .1) (c .measure-read .ensures ∙ fitting (c .before .before .before .before .before .before .before .before .before .before .before .args .text .now) _ _ (c .before .before .before .before .before .if1 .left))
+returns-3 c = a-form _ _ _ _ _ (sym (c .before .before .before .before .before .form-of .ensures) ∙ c .before .before .before .found .given .1) (c .measure-in .ensures ∙ fitting (c .before .before .before .before .before .before .before .args .text .now) _ _ (c .before .if1 .left))
 
 pub measure-spec : {M : Type 1} → statement M
 measure-spec =
@@ -54,7 +48,5 @@ measure-spec =
     returns
     bare-refusal-requires-2
     returns-2
-    code-table-requires
-    square-table-requires
-    measure-read-requires
+    measure-in-requires
     returns-3)

@@ -19,19 +19,19 @@ shared-slice-read-code-in c = search needs
 code-in-requires : tie.Need-code-in-requires
 code-in-requires c κs = search needs
 
-add-pair-in : tie.Need-add-pair-in
-add-pair-in c = search needs
+add-paired-in : tie.Need-add-paired-in
+add-paired-in c = search needs
 
-shared-slice-read-pair-in : tie.Need-shared-slice-read-pair-in
-shared-slice-read-pair-in c = search needs
+shared-slice-read-paired-in : tie.Need-shared-slice-read-paired-in
+shared-slice-read-paired-in c = search needs
 
-pair-in-requires : tie.Need-pair-in-requires
-pair-in-requires c κs = search needs
+paired-in-requires : tie.Need-paired-in-requires
+paired-in-requires c κs = search needs
 
 returns-2 : tie.Need-returns-2
 returns-2 c =
     let a = c .before .before .before .before .before .before .args in
-    pair-here (a .codes .now) (a .squares .now) (a .text .now) (a .at) _ _ (omega (arith, c .before .before .before .before .if1 .left)) (c .before .before .code-in .ensures) (c .pair-in .ensures)
+    pair-here (a .codes .now) (a .squares .now) (a .text .now) (a .at) _ _ (omega (arith, c .before .before .before .before .if1 .left)) (c .before .before .code-in .ensures) (c .paired-in .ensures)
 
 pub pair-at-spec : {M : Type 1} → statement M
 pair-at-spec =
@@ -41,7 +41,7 @@ pair-at-spec =
     returns
     shared-slice-read-code-in
     code-in-requires
-    add-pair-in
-    shared-slice-read-pair-in
-    pair-in-requires
+    add-paired-in
+    shared-slice-read-paired-in
+    paired-in-requires
     returns-2)

@@ -1,5 +1,6 @@
-use Prim.Native.Nat.{_-_}
+use Prim.Native.Nat.{_+_, _-_, _<_}
 use native.Mathlib.Omega.{arith}
+use lib.ListN.{length}
 use borrow.Author.Needs.{needs}
 use Rattle.text.proofs.Lent.{Stored, stored-start, stored-length, stored-more, stored-stop, stored-end, stored-room}
 use Rattle.text.proofs.put_within.Statement.{statement}
@@ -10,6 +11,13 @@ Inv-loop codes text at words₀ o most i₀ words i = Stored codes text at most 
 
 abbrev μ-loop : tie.MeasureT-loop
 μ-loop codes text at words₀ o most i₀ words i = most - i
+
+-- the next character has room
+room : (c : tie.Else1 Inv-loop μ-loop) → c .before .before .before .before .before .before .before .args .o + c .before .before .before .before .loop .i < length (c .before .before .before .before .loop .words)
+room c =
+    let a = c .before .before .before .before .before .before .before .args in
+    let i = c .before .before .before .before .loop in
+    stored-room (a .codes .now) (a .text .now) (a .at) (a .most) (a .words .now) (a .o) (i .i) (i .words) (i .inv) (c .before .before .before .loop-test .taken) (c .before .before .before .before .before .before .before .pre .0) _ (c .before .code-in .ensures) (c .if1 .left) (c .before .before .before .before .before .before .before .pre .1)
 
 loop-holds : tie.Need-loop-holds Inv-loop μ-loop
 loop-holds c = stored-start _ _ _ _ _ _
@@ -36,24 +44,16 @@ returns c =
     stored-stop (a .codes .now) (a .text .now) (a .at) (a .most) (a .words .now) (a .o) (i .i) (i .words) (i .inv) (c .before .before .before .loop-test .taken) (c .before .before .before .before .before .before .before .pre .0) _ (c .before .code-in .ensures) (c .if1 .taken)
 
 add-words : tie.Need-add-words Inv-loop μ-loop
-add-words c =
-    let a = c .before .before .before .before .before .before .before .args in
-    let i = c .before .before .before .before .loop in
-    omega (arith, stored-room (a .codes .now) (a .text .now) (a .at) (a .most) (a .words .now) (a .o) (i .i) (i .words) (i .inv) (c .before .before .before .loop-test .taken) (c .before .before .before .before .before .before .before .pre .0) _ (c .before .code-in .ensures) (c .if1 .left) (c .before .before .before .before .before .before .before .pre .1))
+add-words c = omega (arith, room c)
 
 mul-words : tie.Need-mul-words Inv-loop μ-loop
 mul-words c =
     let a = c .before .before .before .before .before .before .before .args in
     let i = c .before .before .before .before .loop in
-    let h = stored-room (a .codes .now) (a .text .now) (a .at) (a .most) (a .words .now) (a .o) (i .i) (i .words) (i .inv) (c .before .before .before .loop-test .taken) (c .before .before .before .before .before .before .before .pre .0) _ (c .before .code-in .ensures) (c .if1 .left) (c .before .before .before .before .before .before .before .pre .1) in
-    let k = stored-length (a .codes .now) (a .text .now) (a .at) (a .most) (a .words .now) (a .o) (i .i) (i .words) (i .inv) in
-    search (needs, h, k)
+    search (needs, room c, stored-length (a .codes .now) (a .text .now) (a .at) (a .most) (a .words .now) (a .o) (i .i) (i .words) (i .inv))
 
 slice-write-words : tie.Need-slice-write-words Inv-loop μ-loop
-slice-write-words c =
-    let a = c .before .before .before .before .before .before .before .args in
-    let i = c .before .before .before .before .loop in
-    stored-room (a .codes .now) (a .text .now) (a .at) (a .most) (a .words .now) (a .o) (i .i) (i .words) (i .inv) (c .before .before .before .loop-test .taken) (c .before .before .before .before .before .before .before .pre .0) _ (c .before .code-in .ensures) (c .if1 .left) (c .before .before .before .before .before .before .before .pre .1)
+slice-write-words c = room c
 
 add-i : tie.Need-add-i Inv-loop μ-loop
 add-i c = search needs

@@ -31,12 +31,6 @@ returns-2 c =
     let h = c .before .if1 .taken in
     (c .bare-refusal2 .ensures ∙ a-form _ _ _ _ _ q (over (c .before .before .before .before .before .before .before .before .args .text .now) _ _ h), a-form _ _ _ _ _ q (over (c .before .before .before .before .before .before .before .before .args .text .now) _ _ h))
 
-code-table-requires : tie.Need-code-table-requires
-code-table-requires c κs = search needs
-
-square-table-requires : tie.Need-square-table-requires
-square-table-requires c κs = search needs
-
 read-in-requires : tie.Need-read-in-requires
 read-in-requires c κs = search needs
 
@@ -46,11 +40,10 @@ same-length c = search needs
 returns-3 : tie.Need-returns-3
 unfolding readAnswer readWords
 returns-3 c =
-    let q = (sym (c .before .before .before .before .before .before .before .before .before .before .before .before .form-of .ensures) ∙ c .before .before .before .before .before .before .before .before .before .before .found .given .1) in
-    let h = c .before .before .before .before .before .before .before .before .if1 .left in
+    let q = (sym (c .before .before .before .before .before .before .before .before .form-of .ensures) ∙ c .before .before .before .before .before .before .found .given .1) in
+    let h = c .before .before .before .before .if1 .left in
     let e = c .before .before .read-in .ensures in
-    let t = c .before .before .before .before .before .before .before .before .before .before .before .before .before .before .before .args .text .now in
-    (a-form _ _ _ _ _ q (e .0 ∙ fitting t _ _ h), a-form _ _ _ _ _ q (e .1 ∙ fitting t _ _ h))
+    (a-form _ _ _ _ _ q (e .0 ∙ fitting (c .before .before .before .before .before .before .before .before .before .before .before .args .text .now) _ _ h), a-form _ _ _ _ _ q (e .1 ∙ fitting (c .before .before .before .before .before .before .before .before .before .before .before .args .text .now) _ _ h))
 
 pub read-spec : {M : Type 1} → statement M
 read-spec =
@@ -63,8 +56,6 @@ read-spec =
     returns
     bare-refusal-requires-2
     returns-2
-    code-table-requires
-    square-table-requires
     read-in-requires
     same-length
     returns-3)

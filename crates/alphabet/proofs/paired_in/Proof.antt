@@ -1,8 +1,8 @@
 use mathlib.Core.Path.{sym}
 use borrow.Author.Tests.{lt-ltb, le-ltb}
 use borrow.Author.Needs.{needs}
-use Rattle.alphabet.proofs.pair_in.Statement.{statement}
-use Rattle.alphabet.proofs.pair_in.Tie as tie
+use Rattle.alphabet.proofs.paired_in.Statement.{statement}
+use Rattle.alphabet.proofs.paired_in.Tie as tie
 
 returns : tie.Need-returns
 returns c = sym (simp (lt-ltb _ 0x8000 (c .if1 .taken)))
@@ -19,6 +19,6 @@ square-in-requires c κs = search needs
 returns-2 : tie.Need-returns-2
 returns-2 c = rw (le-ltb _ 0x8000 (c .before .before .if1 .left), sym (c .before .column-of .ensures)) (c .square-in .ensures)
 
-pub pair-in-spec : {M : Type 1} → statement M
-pair-in-spec =
+pub paired-in-spec : {M : Type 1} → statement M
+paired-in-spec =
     tie.close (tie.spec returns cast-square-in column-of-requires square-in-requires returns-2)

@@ -3,8 +3,8 @@ use lib.ListN.{length}
 use native.Mathlib.Omega.{arith}
 use borrow.Author.Needs.{needs}
 use Rattle.text.proofs.Lent.{rest-left}
-use Rattle.text.proofs.lone_run.Statement.{statement}
-use Rattle.text.proofs.lone_run.Tie as tie
+use Rattle.text.proofs.spacing_run.Statement.{statement}
+use Rattle.text.proofs.spacing_run.Tie as tie
 
 sub-left : tie.Need-sub-left
 sub-left c = search needs
@@ -23,6 +23,6 @@ run-within-requires-2 c κs = search needs
 returns-2 : tie.Need-returns-2
 returns-2 c = search needs
 
-pub lone-run-spec : {M : Type 1} → statement M
-lone-run-spec =
+pub spacing-run-spec : {M : Type 1} → statement M
+spacing-run-spec =
     tie.close (tie.spec sub-left run-within-requires returns run-within-requires-2 returns-2)
