@@ -43,8 +43,7 @@ def form_lines() -> Iterator[str]:
 
 def sort_lines(form: int) -> Iterator[str]:
     for octet in range(256):
-        plain = " plain" if model.plain(form, octet) else ""
-        yield f"sort {form} {octet:02X} = {sort_text(model.sort(form, octet))}{plain}"
+        yield f"sort {form} {octet:02X} = {sort_text(model.sort(form, octet))}"
 
 
 def shifted_lines(form: int) -> Iterator[str]:

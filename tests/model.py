@@ -218,11 +218,6 @@ def sort_shifted(form: int, octet: int) -> Sort:
     return refused(1)
 
 
-def plain(form: int, octet: int) -> bool:
-    """Whether the octet is a graphic whose character is the octet's own number."""
-    return sort(form, octet) == graphic(octet)
-
-
 def pair(mark: int, follower: int) -> Optional[int]:
     """The character of the mark's square at the follower, or None where the square is not filled."""
     return SQUARES.get((mark, follower))

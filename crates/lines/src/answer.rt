@@ -1,6 +1,7 @@
 // Answers, and answers as text. A function that puts does so at a place of a lent text, where there is room, and answers the place
 // after it.
 use run::Answer;
+pub use run::put;
 
 // The answer to a vector that the program has no room for.
 pub fn unasked() -> Answer {
@@ -18,14 +19,6 @@ pub fn written(answer: Answer) -> usize {
         return answer.count;
     }
     0
-}
-
-pub fn put(out: &mut [u8], at: usize, octet: u8) -> usize {
-    if out.len() <= at {
-        return at;
-    }
-    out[at] = octet;
-    at + 1
 }
 
 // The last hexadecimal digit of the number.

@@ -3,8 +3,11 @@ ghost use mathlib.Core.Path.{_≡_};
 ghost use lib.ListN.{length};
 ghost use Rattle.io.specs.Counts.{Counts};
 
-// Room for the largest file. The `ensures` gives the length, which lending the array as a slice needs.
-pub fn buffer() -> [u8; 400000]
+// Room for the largest file.
+pub type Text = [u8; 400000];
+
+// The `ensures` gives the length, which lending the array as a slice needs.
+pub fn buffer() -> Text
     ensures { λ r. ⌜ 400000 ≡ length r ⌝ }
 {
     [0; 400000]

@@ -1,4 +1,4 @@
-// What the programs of vectors share: the fields of a line, answers as text, lent rooms, files, and what is printed.
+// What the programs of vectors share: files run line by line, the fields of a line, answers as text, lent rooms, and what is printed.
 //
 // No public function has a `requires`. They are proved safe, and to end; what they read and print is tested by the programs.
 pub mod answer;
@@ -6,3 +6,4 @@ pub mod fields;
 pub mod files;
 pub mod room;
 pub mod say;
+pub mod vectors;

@@ -20,11 +20,12 @@ fn say_number(name: &[u8], n: usize) {
 
 // 01: "refused N page P element E place L count C in decimal".
 fn say_refused(a: CaseAnswer) {
-    say_number(b"refused", a.number);
+    let numbers = a.answer;
+    say_number(b"refused", numbers.number);
     say_number(b" page", a.page);
-    say_number(b" element", a.element);
-    say_number(b" place", a.place);
-    say_number(b" count", a.count);
+    say_number(b" element", numbers.element);
+    say_number(b" place", numbers.place);
+    say_number(b" count", numbers.count);
     say(b"\n");
 }
 
@@ -67,7 +68,8 @@ fn room() -> [u32; 65536]
 fn list_case(case: &[u8]) {
     let mut words = room();
     let a = tlx::read_case(case, &mut words);
-    if a.number != 0 {
+    let numbers = a.answer;
+    if numbers.number != 0 {
         say_refused(a);
         return;
     }

@@ -1,7 +1,7 @@
 -- The laws of answers and of lent buffers, over any payload.
 -- Assumes nothing.
 use mathlib.Core.Path.{_≡_, refl, sym, _∙_, ap}
-use mathlib.Core.List.{List, [], _∷_, _++_, append-assoc}
+use mathlib.Core.List.{List, [], _∷_, _++_, append-assoc, append-nil}
 use mathlib.Core.Bool.{Bool, true, false}
 use Prim.Native.Nat.{ℕ, _+_, _-_, _≤_}
 use native.Mathlib.Omega.{arith}
@@ -17,7 +17,21 @@ use Rattle.run.specs.Answers.{answer, given, answerOf, writtenOf, over}
 pub given-append : {A : Type 0} (gives : A → List ℕ) (es fs : List A) → given gives (es ++ fs) ≡ given gives es ++ given gives fs
 unfolding given
 given-append gives [] fs = refl
-given-append gives (e ∷ es) fs = ap (λ (l : List ℕ). gives e ++ l) (given-append gives es fs) ∙ sym (append-assoc (gives e) (given gives es) (given gives fs))
+given-append gives (e ∷ es) fs =
+    ap (λ (l : List ℕ). gives e ++ l) (given-append gives es fs) ∙ sym (append-assoc (gives e) (given gives es) (given gives fs))
+
+pub given-length : {A : Type 0} (gives : A → List ℕ) (es fs : List A)
+    → length (given gives (es ++ fs)) ≡ length (given gives es) + length (given gives fs)
+given-length gives es fs = ap length (given-append gives es fs) ∙ length-append (given gives es) (given gives fs)
+
+-- and of one element more
+pub given-one : {A : Type 0} (gives : A → List ℕ) (es : List A) (e : A) → given gives (es ++ (e ∷ [])) ≡ given gives es ++ gives e
+unfolding given
+given-one gives es e = given-append gives es (e ∷ []) ∙ ap (λ (l : List ℕ). given gives es ++ l) (append-nil (gives e))
+
+pub given-more : {A : Type 0} (gives : A → List ℕ) (es : List A) (e : A)
+    → length (given gives (es ++ (e ∷ []))) ≡ length (given gives es) + length (gives e)
+given-more gives es e = ap length (given-one gives es e) ∙ length-append (given gives es) (gives e)
 
 pub over-length : (l ws : List ℕ) → length ws ≤ length l → length (over l ws) ≡ length l
 over-length l ws h = omega (arith, length-append ws (drop (length ws) l), length-drop (length ws) l)
@@ -32,7 +46,8 @@ over-past l ws k d h =
     ∙ ap (λ (i : ℕ). getD l i d) e
 
 module _ {A : Type 0} (gives : A → List ℕ) (n : ℕ) (l : List ℕ) where
-  by-room : (ws : List ℕ) (t : Bool) (es : ℕ) → leb (length ws) (length l) ≡ t → (pick t (answer 0 es n (length ws)) (answer 9 0 0 (length ws)) .number ≡ 0 → ⊥) → pick t (over l ws) l ≡ l
+  by-room : (ws : List ℕ) (t : Bool) (es : ℕ) → leb (length ws) (length l) ≡ t
+      → (pick t (answer 0 es n (length ws)) (answer 9 0 0 (length ws)) .number ≡ 0 → ⊥) → pick t (over l ws) l ≡ l
   by-room ws true es e h = absurd (h refl)
   by-room ws false es e h = refl
 
@@ -50,7 +65,8 @@ module _ {A : Type 0} (gives : A → List ℕ) (n : ℕ) (l : List ℕ) where
   written-length (accepted es) = room-length (given gives es) (leb (length (given gives es)) (length l)) refl
   written-length (refusal r e p d) = refl
 
-  past-by : (ws : List ℕ) (t : Bool) (es k d : ℕ) → pick t (answer 0 es n (length ws)) (answer 9 0 0 (length ws)) .count ≤ k → getD (pick t (over l ws) l) k d ≡ getD l k d
+  past-by : (ws : List ℕ) (t : Bool) (es k d : ℕ) → pick t (answer 0 es n (length ws)) (answer 9 0 0 (length ws)) .count ≤ k
+      → getD (pick t (over l ws) l) k d ≡ getD l k d
   past-by ws true es k d h = over-past l ws k d h
   past-by ws false es k d h = refl
 

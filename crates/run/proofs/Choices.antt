@@ -14,13 +14,16 @@ pub pick-case : {A : Type 0} (P : A → Type 0) (t : Bool) (x y : A) → (t ≡ 
 pick-case P true x y f g = f refl
 pick-case P false x y f g = g refl
 
+-- two tests, one after the other, both hold
+pub both-true : (t u : Bool) → pick t u false ≡ true → (t ≡ true) × (u ≡ true)
+both-true true u h = (refl, h)
+both-true false u h = let z : _≡_ {A = ℕ} 0 1 = cc in absurd (omega arith)
+
 -- a number that passes the test of a range is in it
 pub within-range : (lo hi n : ℕ) → within lo hi n ≡ true → (lo ≤ n) × (n ≤ hi)
-within-range lo hi n = go (leb lo n) refl
-  where
-    go : (t : Bool) → leb lo n ≡ t → pick t (leb n hi) false ≡ true → (lo ≤ n) × (n ≤ hi)
-    go true e h = (leb-true lo n e, leb-true n hi h)
-    go false e h = let z : _≡_ {A = ℕ} 0 1 = cc in absurd (omega arith)
+within-range lo hi n e =
+    let h = both-true (leb lo n) (leb n hi) e in
+    (leb-true lo n (h .0), leb-true n hi (h .1))
 
 -- a number that passes the test of a list is a member of it
 pub one-of : (ks : List ℕ) (n : ℕ) → oneOf ks n ≡ true → List·Memᴰ n ks

@@ -6,3 +6,10 @@ pub mod Members
 pub mod Range
 pub mod Search
 pub mod Puts
+pub mod FromPlace
+pub mod Loops
+pub mod Rooms
+pub mod Spellers
+pub mod SpeltLoops
+pub mod Tags
+pub mod Before

@@ -8,7 +8,7 @@ use native.Mathlib.Nat.{add-assoc, zero-add, add-zero}
 use native.Mathlib.Omega.{arith}
 use lib.ListN.{length, take, drop, length-append}
 use lib.Seq.{take-append-seam, drop-append-seam}
-use Rattle.run.specs.Head.{Head, element, refused, none, Outcome, accepted, refusal, join, after, from, outcome}
+use Rattle.run.specs.Head.{Head, element, refused, none, Outcome, accepted, refusal, join, from, outcome}
 use Rattle.run.specs.Grammar.{Run, done, more, RunOf, Reads, Stopped}
 
 -- joinings compose
@@ -20,7 +20,7 @@ pub join-none : {A : Type 0} (x : Outcome A) → join [] 0 x ≡ x
 join-none (accepted gs) = refl
 join-none (refusal r n p d) = simp zero-add
 
-from-drop : {A : Type 0} (head : List ℕ → Head A) (s : List ℕ) (k : ℕ) → from head s k ≡ from head (drop k s) 0
+from-drop : {X A : Type 0} (head : List X → Head A) (s : List X) (k : ℕ) → from head s k ≡ from head (drop k s) 0
 unfolding from
 from-drop head [] zero = refl
 from-drop head [] (suc k) = refl
@@ -28,15 +28,17 @@ from-drop head (b ∷ s) zero = refl
 from-drop head (b ∷ s) (suc k) = from-drop head s k
 
 -- a run has as many pieces as elements
-pub run-length : {A : Type 0} {S : List ℕ → A → Type 0} {s : List ℕ} {ps : List (List ℕ)} {es : List A} → Run S s ps es → length ps ≡ length es
+pub run-length : {X A : Type 0} {S : List X → A → Type 0} {s : List X} {ps : List (List X)} {es : List A} → Run S s ps es
+    → length ps ≡ length es
 run-length done = refl
 run-length (more sp r) = ap suc (run-length r)
 
 -- two runs joined are a run of both lists of elements
-pub run-append : {A : Type 0} {S : List ℕ → A → Type 0} {s t : List ℕ} {ps qs : List (List ℕ)} {es fs : List A} → Run S s ps es → Run S t qs fs → RunOf S (s ++ t) (es ++ fs)
+pub run-append : {X A : Type 0} {S : List X → A → Type 0} {s t : List X} {ps qs : List (List X)} {es fs : List A} → Run S s ps es
+    → Run S t qs fs → RunOf S (s ++ t) (es ++ fs)
 run-append {qs = qs} done q = (qs, q)
-run-append {S = S} {t = t} {fs = fs} (more {p} {s} {ps} {e} {es} sp r) q =
-    let i = run-append r q in subst (λ (l : List ℕ). RunOf S l (e ∷ es ++ fs)) (sym (append-assoc p s t)) (p ∷ i .0, more sp (i .1))
+run-append {X = X} {S = S} {t = t} {fs = fs} (more {p} {s} {ps} {e} {es} sp r) q =
+    let i = run-append r q in subst (λ (l : List X). RunOf S l (e ∷ es ++ fs)) (sym (append-assoc p s t)) (p ∷ i .0, more sp (i .1))
 
 -- a refusal has a number, and its places are places of a list of n entries, or its end
 pub record Placed (n r p d : ℕ) : Type 0 where
@@ -45,7 +47,8 @@ pub record Placed (n r p d : ℕ) : Type 0 where
   pub deciding : d ≤ n
 
 -- the same stop, by another rule for what is left
-pub stopped-by : {A : Type 0} {S : List ℕ → A → Type 0} {H K : List ℕ → ℕ → Type 0} {s : List ℕ} {n p d : ℕ} (h : Stopped S H s n p d) → K (h .rest) (h .behind) → Stopped S K s n p d
+pub stopped-by : {X A : Type 0} {S : List X → A → Type 0} {H K : List X → ℕ → Type 0} {s : List X} {n p d : ℕ} (h : Stopped S H s n p d)
+    → K (h .rest) (h .behind) → Stopped S K s n p d
 stopped-by h k =
     record {
       front = h .front;
@@ -60,31 +63,32 @@ stopped-by h k =
       deciding = h .deciding;
     }
 
-module _ {A : Type 0} (head : List ℕ → Head A) (S : List ℕ → A → Type 0) (laws : Reads head S) where
+module _ {X A : Type 0} {head : List X → Head A} {S : List X → A → Type 0} (laws : Reads head S) where
   pub outcome-none : outcome head [] ≡ accepted []
   unfolding outcome from
   outcome-none = refl
 
-  pub outcome-stop : (s : List ℕ) (r d : ℕ) → head s ≡ refused r d → outcome head s ≡ refusal r 0 0 d
+  pub outcome-stop : (s : List X) (r d : ℕ) → head s ≡ refused r d → outcome head s ≡ refusal r 0 0 d
   unfolding outcome from
   outcome-stop [] r d h = let z : _≡_ {A = ℕ} 0 1 = cc (laws .ends) in absurd (omega arith)
   outcome-stop (b ∷ s) r d h = simp h
 
-  step : (s : List ℕ) (e : A) (k : ℕ) → head s ≡ element e (suc k) → outcome head s ≡ join (e ∷ []) (suc k) (outcome head (drop (suc k) s))
+  step : (s : List X) (e : A) (k : ℕ) → head s ≡ element e (suc k) → outcome head s ≡ join (e ∷ []) (suc k) (outcome head (drop (suc k) s))
   unfolding outcome from
   step [] e k h = let z : _≡_ {A = ℕ} 0 1 = cc (laws .ends) in absurd (omega arith)
   step (b ∷ s) e k h =
       let gone : suc k - 1 ≡ k = omega arith in
       simp h (ap (join (e ∷ []) (suc k)) (ap (from head s) gone ∙ from-drop head s k))
 
-  pub outcome-more : (p t : List ℕ) (e : A) → S p e → outcome head (p ++ t) ≡ join (e ∷ []) (length p) (outcome head t)
+  pub outcome-more : (p t : List X) (e : A) → S p e → outcome head (p ++ t) ≡ join (e ∷ []) (length p) (outcome head t)
   outcome-more [] t e sp = absurd (omega (arith, laws .some [] e sp))
   outcome-more (b ∷ p) t e sp =
       step (b ∷ p ++ t) e (length p) (laws .finds (b ∷ p) t e sp)
-      ∙ ap (λ (l : List ℕ). join (e ∷ []) (suc (length p)) (outcome head l)) (drop-append-seam p t)
+      ∙ ap (λ (l : List X). join (e ∷ []) (suc (length p)) (outcome head l)) (drop-append-seam p t)
 
   -- after a run, the rest is accepted or refused as by itself, moved up
-  pub run-join : {s : List ℕ} {ps : List (List ℕ)} {es : List A} → Run S s ps es → (t : List ℕ) → outcome head (s ++ t) ≡ join es (length s) (outcome head t)
+  pub run-join : {s : List X} {ps : List (List X)} {es : List A} → Run S s ps es → (t : List X)
+      → outcome head (s ++ t) ≡ join es (length s) (outcome head t)
   run-join done t = sym (join-none (outcome head t))
   run-join (more {p} {s} {ps} {e} {es} sp r) t =
       ap (outcome head) (append-assoc p s t)
@@ -93,38 +97,40 @@ module _ {A : Type 0} (head : List ℕ → Head A) (S : List ℕ → A → Type 
       ∙ join-join (e ∷ []) es (length p) (length s) (outcome head t)
       ∙ simp (length-append p s)
 
-  run-accepted : {s : List ℕ} {ps : List (List ℕ)} {es : List A} → Run S s ps es → outcome head s ≡ accepted es
+  run-accepted : {s : List X} {ps : List (List X)} {es : List A} → Run S s ps es → outcome head s ≡ accepted es
   run-accepted {s} {ps} {es} r =
       sym (ap (outcome head) (append-nil s)) ∙ run-join r [] ∙ ap (join es (length s)) outcome-none ∙ simp append-nil
 
   -- how a list comes to its outcome, to go by induction over its elements
-  data Reading : List ℕ → Outcome A → Type 0 where
+  data Reading : List X → Outcome A → Type 0 where
     at-none : Reading [] (accepted [])
-    at-more : {p t : List ℕ} {e : A} {x : Outcome A} → S p e → Reading t x → Reading (p ++ t) (join (e ∷ []) (length p) x)
-    at-stop : {s : List ℕ} {r d : ℕ} → head s ≡ refused r d → Reading s (refusal r 0 0 d)
+    at-more : {p t : List X} {e : A} {x : Outcome A} → S p e → Reading t x → Reading (p ++ t) (join (e ∷ []) (length p) x)
+    at-stop : {s : List X} {r d : ℕ} → head s ≡ refused r d → Reading s (refusal r 0 0 d)
 
-  first : (b : ℕ) (s p t : List ℕ) (e : A) → ((k : ℕ) → Reading (drop k s) (outcome head (drop k s))) → b ∷ s ≡ p ++ t → S p e → Reading (b ∷ s) (outcome head (b ∷ s))
+  first : (b : X) (s p t : List X) (e : A) → ((k : ℕ) → Reading (drop k s) (outcome head (drop k s))) → b ∷ s ≡ p ++ t → S p e
+      → Reading (b ∷ s) (outcome head (b ∷ s))
   first b s [] t e ih w sp = absurd (omega (arith, laws .some [] e sp))
   first b s (a ∷ p) t e ih w sp =
       let ws : s ≡ p ++ t = cc in
       let left : drop (length p) s ≡ t = rw ws (drop-append-seam p t) in
       rw (w, outcome-more (a ∷ p) t e sp) (at-more sp (rw left at (ih (length p))))
 
-  next : (b : ℕ) (s : List ℕ) → ((k : ℕ) → Reading (drop k s) (outcome head (drop k s))) → (h : Head A) → head (b ∷ s) ≡ h → Reading (b ∷ s) (outcome head (b ∷ s))
+  next : (b : X) (s : List X) → ((k : ℕ) → Reading (drop k s) (outcome head (drop k s))) → (h : Head A) → head (b ∷ s) ≡ h
+      → Reading (b ∷ s) (outcome head (b ∷ s))
   next b s ih (element e k) q = let f = laws .found (b ∷ s) e k q in first b s (f .front) (f .rest) e ih (f .whole) (f .spells)
   next b s ih (refused r d) q = rw (outcome-stop (b ∷ s) r d q) (at-stop q)
-  next b s ih none q = let z : b ∷ s ≡ [] = laws .goes (b ∷ s) q in let y : _≡_ {A = ℕ} 0 1 = cc in absurd (omega arith)
+  next b s ih none q = absurd (omega (arith, ap length (laws .goes (b ∷ s) q)))
 
-  from-there : (s : List ℕ) (k : ℕ) → Reading (drop k s) (outcome head (drop k s))
+  from-there : (s : List X) (k : ℕ) → Reading (drop k s) (outcome head (drop k s))
   from-there [] zero = rw outcome-none at-none
   from-there [] (suc k) = rw outcome-none at-none
   from-there (b ∷ s) zero = next b s (from-there s) (head (b ∷ s)) refl
   from-there (b ∷ s) (suc k) = from-there s k
 
-  reading : (s : List ℕ) → Reading s (outcome head s)
+  reading : (s : List X) → Reading s (outcome head s)
   reading s = from-there s 0
 
-  reading-run : {s : List ℕ} {x : Outcome A} → Reading s x → (es : List A) → x ≡ accepted es → RunOf S s es
+  reading-run : {s : List X} {x : Outcome A} → Reading s x → (es : List A) → x ≡ accepted es → RunOf S s es
   reading-run at-none es q = let e : es ≡ [] = cc in rw e ([], done)
   reading-run (at-more {p} {e} {x = accepted fs} sp r) es q =
       let q′ : es ≡ e ∷ fs = cc in
@@ -134,15 +140,15 @@ module _ {A : Type 0} (head : List ℕ → Head A) (S : List ℕ → A → Type 
   reading-run (at-stop h) es q = let z : _≡_ {A = ℕ} 0 1 = cc in absurd (omega arith)
 
   -- A list is accepted exactly when it is a run of elements, with exactly these elements in order.
-  pub accepts : (s : List ℕ) (es : List A) → (outcome head s ≡ accepted es) ↔ RunOf S s es
+  pub accepts : (s : List X) (es : List A) → (outcome head s ≡ accepted es) ↔ RunOf S s es
   accepts s es = (reading-run (reading s) es, λ r. run-accepted (r .1))
 
-  empty-run : {t : List ℕ} {qs : List (List ℕ)} {fs : List A} → Run S t qs fs → [] ≡ t → ([] ≡ qs) × ([] ≡ fs)
+  empty-run : {t : List X} {qs : List (List X)} {fs : List A} → Run S t qs fs → [] ≡ t → ([] ≡ qs) × ([] ≡ fs)
   empty-run done w = (refl, refl)
   empty-run (more {p} {s} {e} sp r) w =
       absurd (omega (arith, laws .some p e sp, ap length w, length-append p s))
 
-  same-run : {s t : List ℕ} {ps qs : List (List ℕ)} {es fs : List A} → Run S s ps es → Run S t qs fs → s ≡ t → (ps ≡ qs) × (es ≡ fs)
+  same-run : {s t : List X} {ps qs : List (List X)} {es fs : List A} → Run S s ps es → Run S t qs fs → s ≡ t → (ps ≡ qs) × (es ≡ fs)
   same-run done r w = empty-run r w
   same-run (more sp r) done w =
       let z = empty-run (more sp r) (sym w) in
@@ -158,20 +164,23 @@ module _ {A : Type 0} (head : List ℕ → Head A) (S : List ℕ → A → Type 
       (ap₂ _∷_ pq (i .0), ap₂ _∷_ ef (i .1))
 
   -- A list is a run in one way at most: the same elements, of the same pieces.
-  pub one-run : {s : List ℕ} {ps qs : List (List ℕ)} {es fs : List A} → Run S s ps es → Run S s qs fs → (ps ≡ qs) × (es ≡ fs)
+  pub one-run : {s : List X} {ps qs : List (List X)} {es fs : List A} → Run S s ps es → Run S s qs fs → (ps ≡ qs) × (es ≡ fs)
   one-run r r′ = same-run r r′ refl
 
   -- After an accepted list the rest is accepted or refused as by itself: elements joined, or element number and places moved up.
-  pub joined : (s t : List ℕ) (es : List A) → outcome head s ≡ accepted es → outcome head (s ++ t) ≡ join es (length s) (outcome head t)
+  pub joined : (s t : List X) (es : List A) → outcome head s ≡ accepted es → outcome head (s ++ t) ≡ join es (length s) (outcome head t)
   joined s t es q = run-join (accepts s es .0 q .1) t
 
-  pub joined-accepted : (s t : List ℕ) (es fs : List A) → outcome head s ≡ accepted es → outcome head t ≡ accepted fs → outcome head (s ++ t) ≡ accepted (es ++ fs)
+  pub joined-accepted : (s t : List X) (es fs : List A) → outcome head s ≡ accepted es → outcome head t ≡ accepted fs
+      → outcome head (s ++ t) ≡ accepted (es ++ fs)
   joined-accepted s t es fs p q = joined s t es p ∙ rw q
 
-  pub joined-refused : (s t : List ℕ) (es : List A) (r n p d : ℕ) → outcome head s ≡ accepted es → outcome head t ≡ refusal r n p d → outcome head (s ++ t) ≡ refusal r (length es + n) (length s + p) (length s + d)
+  pub joined-refused : (s t : List X) (es : List A) (r n p d : ℕ) → outcome head s ≡ accepted es → outcome head t ≡ refusal r n p d
+      → outcome head (s ++ t) ≡ refusal r (length es + n) (length s + p) (length s + d)
   joined-refused s t es r n p d h q = joined s t es h ∙ rw q
 
-  reading-stopped : {s : List ℕ} {x : Outcome A} → Reading s x → (r n p d : ℕ) → x ≡ refusal r n p d → Stopped S (λ rest b. head rest ≡ refused r b) s n p d
+  reading-stopped : {s : List X} {x : Outcome A} → Reading s x → (r n p d : ℕ) → x ≡ refusal r n p d
+      → Stopped S (λ rest b. head rest ≡ refused r b) s n p d
   reading-stopped at-none r n p d q = let z : _≡_ {A = ℕ} 0 1 = cc in absurd (omega arith)
   reading-stopped (at-more {x = accepted fs} sp x) r n p d q = let z : _≡_ {A = ℕ} 0 1 = cc in absurd (omega arith)
   reading-stopped (at-more {p = f} {t} {e = a} {x = refusal r₀ n₀ p₀ d₀} sp x) r n p d q =
@@ -186,7 +195,7 @@ module _ {A : Type 0} (head : List ℕ → Head A) (S : List ℕ → A → Type 
         rest = i .rest;
         elements = a ∷ i .elements;
         behind = i .behind;
-        whole = ap (λ (u : List ℕ). f ++ u) (i .whole) ∙ sym (append-assoc f (i .front) (i .rest));
+        whole = ap (λ (u : List X). f ++ u) (i .whole) ∙ sym (append-assoc f (i .front) (i .rest));
         run = (f ∷ i .run .0, more sp (i .run .1));
         here = i .here ∙ ap (λ (u : ℕ). refused u (i .behind)) qr;
         element-number = omega (arith, i .element-number);
@@ -209,7 +218,7 @@ module _ {A : Type 0} (head : List ℕ → Head A) (S : List ℕ → A → Type 
         deciding = sym (zero-add d);
       }
 
-  stopped-refused : {s : List ℕ} {r n p d : ℕ} → Stopped S (λ rest b. head rest ≡ refused r b) s n p d → outcome head s ≡ refusal r n p d
+  stopped-refused : {s : List X} {r n p d : ℕ} → Stopped S (λ rest b. head rest ≡ refused r b) s n p d → outcome head s ≡ refusal r n p d
   stopped-refused {s} {r} {n} {p} {d} h =
       ap (outcome head) (h .whole)
       ∙ run-join (h .run .1) (h .rest)
@@ -218,11 +227,12 @@ module _ {A : Type 0} (head : List ℕ → Head A) (S : List ℕ → A → Type 
 
   -- A list is refused exactly when, behind a run of elements, what is left is refused at its head: what stands before the refusal is
   -- accepted, with exactly as many elements as it says.
-  pub refuses : (s : List ℕ) (r n p d : ℕ) → (outcome head s ≡ refusal r n p d) ↔ Stopped S (λ rest b. head rest ≡ refused r b) s n p d
+  pub refuses : (s : List X) (r n p d : ℕ) → (outcome head s ≡ refusal r n p d) ↔ Stopped S (λ rest b. head rest ≡ refused r b) s n p d
   refuses s r n p d = (reading-stopped (reading s) r n p d, stopped-refused)
 
   -- The same by any rule that says exactly what the head refuses.
-  pub refuses-by : (Here : ℕ → List ℕ → ℕ → Type 0) → ((rest : List ℕ) (r b : ℕ) → (head rest ≡ refused r b) ↔ Here r rest b) → (s : List ℕ) (r n p d : ℕ) → (outcome head s ≡ refusal r n p d) ↔ Stopped S (Here r) s n p d
+  pub refuses-by : (Here : ℕ → List X → ℕ → Type 0) → ((rest : List X) (r b : ℕ) → (head rest ≡ refused r b) ↔ Here r rest b)
+      → (s : List X) (r n p d : ℕ) → (outcome head s ≡ refusal r n p d) ↔ Stopped S (Here r) s n p d
   refuses-by Here by s r n p d = (forth, back)
     where
       forth : outcome head s ≡ refusal r n p d → Stopped S (Here r) s n p d
@@ -232,13 +242,15 @@ module _ {A : Type 0} (head : List ℕ → Head A) (S : List ℕ → A → Type 
       back h = refuses s r n p d .1 (stopped-by h (by (h .rest) r (h .behind) .1 (h .here)))
 
   -- What stands before a refusal is accepted, with exactly as many elements as it says.
-  pub before-refusal : (s : List ℕ) (r n p d : ℕ) → outcome head s ≡ refusal r n p d → (front : List ℕ) × (rest : List ℕ) × (es : List A) × (s ≡ front ++ rest) × (outcome head front ≡ accepted es) × (length es ≡ n) × (length front ≡ p)
+  pub before-refusal : (s : List X) (r n p d : ℕ) → outcome head s ≡ refusal r n p d
+      → (front : List X) × (rest : List X) × (es : List A) × (s ≡ front ++ rest) × (outcome head front ≡ accepted es) × (length es ≡ n) ×
+      (length front ≡ p)
   before-refusal s r n p d q =
       let h = refuses s r n p d .0 q in
       (h .front, h .rest, h .elements, h .whole, run-accepted (h .run .1), sym (h .element-number), sym (h .first-place))
 
   -- The places of a refusal are places of the list, or its end.
-  pub placed : (s : List ℕ) (r n p d : ℕ) → outcome head s ≡ refusal r n p d → Placed (length s) r p d
+  pub placed : (s : List X) (r n p d : ℕ) → outcome head s ≡ refusal r n p d → Placed (length s) r p d
   placed s r n p d q =
       let h = refuses s r n p d .0 q in
       let l : length s ≡ length (h .front) + length (h .rest) = ap length (h .whole) ∙ length-append (h .front) (h .rest) in

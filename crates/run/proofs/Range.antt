@@ -51,7 +51,9 @@ module _ {A : Type 0} where
       subst (λ (m : ℕ). f m ≡ g m) (add-sub-of-le l) (from f g lo (end - lo) e (k - lo) (omega arith))
 
   -- f and g agree from lo up to end but at the single numbers of the match's arms
-  pub without : (f g : ℕ → A) (kss : List (List ℕ)) (lo end : ℕ) → listed (λ k. pick (single kss k) (g k) (f k)) lo (end - lo) ≡ listed g lo (end - lo) → (k : ℕ) → Rest kss k → lo ≤ k → k < end → f k ≡ g k
+  pub without : (f g : ℕ → A) (kss : List (List ℕ)) (lo end : ℕ)
+      → listed (λ k. pick (single kss k) (g k) (f k)) lo (end - lo) ≡ listed g lo (end - lo) → (k : ℕ) → Rest kss k → lo ≤ k → k < end
+      → f k ≡ g k
   without f g kss lo end e k n l h =
       not-picked (single kss k) (f k) (g k) (none-single kss k n) (within (λ i. pick (single kss i) (g i) (f i)) g lo end e k l h)
 
@@ -63,6 +65,8 @@ module _ {A : Type 0} where
   at-keys f g (x ∷ (y ∷ ks)) e k (inr h) = at-keys f g (y ∷ ks) (same-rest e) k h
 
 -- two functions of two numbers agree at all pairs below a and b
-pub within² : {A : Type 0} (f g : ℕ → ℕ → A) (a b : ℕ) → listed (λ i. listed (f i) 0 b) 0 a ≡ listed (λ i. listed (g i) 0 b) 0 a → (i j : ℕ) → i < a → j < b → f i j ≡ g i j
+pub within² : {A : Type 0} (f g : ℕ → ℕ → A) (a b : ℕ) → listed (λ i. listed (f i) 0 b) 0 a ≡ listed (λ i. listed (g i) 0 b) 0 a → (i j : ℕ)
+    → i < a → j < b → f i j ≡ g i j
 within² f g a b e i j hi hj =
-    within (f i) (g i) 0 b (rw sub-zero (within (λ k. listed (f k) 0 b) (λ k. listed (g k) 0 b) 0 a (rw sub-zero e) i (omega arith) hi)) j (omega arith) hj
+    within (f i) (g i) 0 b (rw sub-zero (within (λ k. listed (f k) 0 b) (λ k. listed (g k) 0 b) 0 a (rw sub-zero e) i (omega arith) hi)) j
+    (omega arith) hj

@@ -22,7 +22,8 @@ module _ {A B : Type 0} (key : A → ℕ) (gives : A → B) (missing : B) where
   hit-more : {x : A} {l : List A} {k : ℕ} {b : B} → Hit l k b → Hit (x ∷ l) k b
   hit-more h = record { entry = h .entry; member = List·Memᴰ·tail (h .member); has-key = h .has-key; is-given = h .is-given }
 
-  hit-by : (a : A) (l : List A) (k : ℕ) (b : B) (t : Bool) → eqb (key a) k ≡ t → (missing ≡ b → ⊥) → (firstBy key gives missing l k ≡ b → Hit l k b) → pick t (gives a) (firstBy key gives missing l k) ≡ b → Hit (a ∷ l) k b
+  hit-by : (a : A) (l : List A) (k : ℕ) (b : B) (t : Bool) → eqb (key a) k ≡ t → (missing ≡ b → ⊥)
+      → (firstBy key gives missing l k ≡ b → Hit l k b) → pick t (gives a) (firstBy key gives missing l k) ≡ b → Hit (a ∷ l) k b
   hit-by a l k b true q n ih e = record { entry = a; member = List·Memᴰ·head refl; has-key = eqb-true (key a) k q; is-given = e }
   hit-by a l k b false q n ih e = hit-more (ih e)
 
@@ -31,12 +32,15 @@ module _ {A B : Type 0} (key : A → ℕ) (gives : A → B) (missing : B) where
   hit [] k b n e = absurd (n e)
   hit (a ∷ l) k b n e = hit-by a l k b (eqb (key a) k) refl n (hit l k b n) e
 
-  append-by : (a : A) (l m : List A) (k : ℕ) (b : B) (t : Bool) → (firstBy key gives missing l k ≡ b → firstBy key gives missing (l ++ m) k ≡ b) → pick t (gives a) (firstBy key gives missing l k) ≡ b → pick t (gives a) (firstBy key gives missing (l ++ m) k) ≡ b
+  append-by : (a : A) (l m : List A) (k : ℕ) (b : B) (t : Bool)
+      → (firstBy key gives missing l k ≡ b → firstBy key gives missing (l ++ m) k ≡ b)
+      → pick t (gives a) (firstBy key gives missing l k) ≡ b → pick t (gives a) (firstBy key gives missing (l ++ m) k) ≡ b
   append-by a l m k b true ih e = e
   append-by a l m k b false ih e = ih e
 
   -- what is found in the first of two lists is found in the two joined
-  pub found-first : (l m : List A) (k : ℕ) (b : B) → (missing ≡ b → ⊥) → firstBy key gives missing l k ≡ b → firstBy key gives missing (l ++ m) k ≡ b
+  pub found-first : (l m : List A) (k : ℕ) (b : B) → (missing ≡ b → ⊥) → firstBy key gives missing l k ≡ b
+      → firstBy key gives missing (l ++ m) k ≡ b
   found-first [] m k b n e = absurd (n e)
   found-first (a ∷ l) m k b n e = append-by a l m k b (eqb (key a) k) (found-first l m k b n) e
 
@@ -52,7 +56,8 @@ module _ {A B : Type 0} (key : A → ℕ) (gives : A → B) (missing : B) where
       abbrev pub Left : ℕ → Type 0
       Left i = answer ≡ firstBy key gives missing (filled i (size - i)) k
 
-      missed : (i : ℕ) (more : List A) (t : Bool) → eqb (table i) k ≡ false → firstBy key gives missing (pick t more (at i ∷ more)) k ≡ firstBy key gives missing more k
+      missed : (i : ℕ) (more : List A) (t : Bool) → eqb (table i) k ≡ false
+          → firstBy key gives missing (pick t more (at i ∷ more)) k ≡ firstBy key gives missing more k
       missed i more true e = refl
       missed i more false e = rw (keyed i, e)
 
@@ -68,7 +73,8 @@ module _ {A B : Type 0} (key : A → ℕ) (gives : A → B) (missing : B) where
 
       pub hits : (i : ℕ) → i < size → Left i → (k ≡ 0 → ⊥) → table i ≡ k → gives (at i) ≡ answer
       hits i h l z e =
-          sym (l ∙ ap (λ (m : ℕ). firstBy key gives missing (filled i m) k) (one-more i h) ∙ simp (e, ne-eqb k 0 z, keyed i, eq-eqb k k refl))
+          sym (l ∙ ap (λ (m : ℕ). firstBy key gives missing (filled i m) k) (one-more i h) ∙ simp
+          (e, ne-eqb k 0 z, keyed i, eq-eqb k k refl))
 
       pub at-end : (i : ℕ) → i ≡ size → Left i → missing ≡ answer
       at-end i e l = sym (l ∙ ap (λ (m : ℕ). firstBy key gives missing (filled i m) k) (let z : size - i ≡ 0 = omega arith in z))
@@ -94,7 +100,8 @@ module _ {A B : Type 0} (key : A → ℕ) (gives : A → B) (missing : B) where
     place-here : {a : A} (i n : ℕ) → a ≡ at i → (table i ≡ 0 → ⊥) → Place a i (suc n)
     place-here i n e z = record { place = i; from = omega arith; before = omega arith; is-there = e; not-empty = z }
 
-    place-by : {a : A} (i n : ℕ) (t : Bool) → eqb (table i) 0 ≡ t → (List·Memᴰ a (filled (suc i) n) → Place a (suc i) n) → List·Memᴰ a (pick t (filled (suc i) n) (at i ∷ filled (suc i) n)) → Place a i (suc n)
+    place-by : {a : A} (i n : ℕ) (t : Bool) → eqb (table i) 0 ≡ t → (List·Memᴰ a (filled (suc i) n) → Place a (suc i) n)
+        → List·Memᴰ a (pick t (filled (suc i) n) (at i ∷ filled (suc i) n)) → Place a i (suc n)
     place-by i n true q ih m = later (ih m)
     place-by i n false q ih m = ⊎-elim (λ e. place-here i n e (eqb-false (table i) 0 q)) (λ h. later (ih h)) (List·Memᴰ·cases-cons m)
 

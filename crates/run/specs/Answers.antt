@@ -1,7 +1,7 @@
--- From what a list comes to, to the four numbers of an answer and to what a lent buffer holds after (document 01, "The numbers an answer
--- carries").
+-- Proved equal to document 01's table of numbers, where it is stated for a whole input: from what a list comes to, to the four numbers of
+-- an answer and to what a lent buffer holds after ("The numbers an answer carries").
 -- Assumes nothing.
-use Prim.Native.Nat.{ℕ}
+use Prim.Native.Nat.{ℕ, _≤_}
 use mathlib.Core.List.{List, [], _∷_, _++_}
 use lib.Dec.{leb}
 use lib.ListN.{length, drop}
@@ -17,6 +17,10 @@ answer r n p c = record { number = r; element = n; place = p; count = c }
 abbrev pub bare : ℕ → Answer
 bare r = answer r 0 0 0
 
+-- "lent room is short": 9, with the room needed
+abbrev pub shortRoom : ℕ → Answer
+shortRoom needed = answer 9 0 0 needed
+
 -- "In 1 to 8 the count is an octet place too and moves up with it"; of any other refusal of an element (10) it is 0
 abbrev pub countOf : ℕ → ℕ → ℕ
 countOf r d = pick (leb r 8) d 0
@@ -30,7 +34,7 @@ given gives (e ∷ es) = gives e ++ given gives es
 -- n is the input's length, room the length of the lent buffer.
 abbrev pub answerOf : {A : Type 0} → (A → List ℕ) → ℕ → ℕ → Outcome A → Answer
 answerOf gives n room (accepted es) =
-    pick (leb (length (given gives es)) room) (answer 0 (length es) n (length (given gives es))) (answer 9 0 0 (length (given gives es)))
+    pick (leb (length (given gives es)) room) (answer 0 (length es) n (length (given gives es))) (shortRoom (length (given gives es)))
 answerOf gives n room (refusal r e p d) = answer r e p (countOf r d)
 
 -- the entries ws over the first of a buffer l; the rest untouched
@@ -41,3 +45,22 @@ over l ws = ws ++ drop (length ws) l
 abbrev pub writtenOf : {A : Type 0} → (A → List ℕ) → List ℕ → Outcome A → List ℕ
 writtenOf gives l (accepted es) = pick (leb (length (given gives es)) (length l)) (over l (given gives es)) l
 writtenOf gives l (refusal r e p d) = l
+
+-- an answer as with room enough
+abbrev pub roomyAnswer : {A : Type 0} → (A → List ℕ) → ℕ → Outcome A → Answer
+roomyAnswer gives n (accepted es) = answer 0 (length es) n (length (given gives es))
+roomyAnswer gives n (refusal r e p d) = answer r e p (countOf r d)
+
+-- the outcome is accepted, and a room of r entries holds what it gives
+abbrev pub roomFor : {A : Type 0} → (A → List ℕ) → ℕ → Outcome A → Type 0
+roomFor gives r (accepted es) = length (given gives es) ≤ r
+roomFor gives r (refusal n e p d) = ⊥
+
+-- an element that is known by the entries it gives
+abbrev pub same : List ℕ → List ℕ
+same s = s
+
+-- the second outcome where the first is accepted, else the refusal of the first
+abbrev pub afterReading : {A B : Type 0} → Outcome A → Outcome B → Outcome B
+afterReading (accepted es) x = x
+afterReading (refusal r n p d) x = refusal r n p d

@@ -1,4 +1,4 @@
--- A choice by a test, and the tests that definitions are made of.
+-- To be believed: a choice by a test, and the tests that definitions are made of.
 -- Assumes nothing.
 use Prim.Native.Nat.{ℕ}
 use mathlib.Core.Bool.{Bool, true, false}

@@ -1,5 +1,5 @@
--- What stands at the head of a list, and what a whole list comes to, element after element. Reading a text and writing a list of words have
--- this one shape: entries are octets or words, A is what an element is known by.
+-- To be believed: what stands at the head of a list, and what a whole list comes to, element after element. Reading a text and writing a
+-- list of words have this one shape: entries (X) are octets, words or pages, A is what an element is known by.
 -- Assumes nothing.
 use Prim.Native.Nat.{ℕ, zero, suc, _+_, _-_}
 use mathlib.Core.List.{List, [], _∷_, _++_}
@@ -33,11 +33,11 @@ after (refused r d) rest = refusal r 0 0 d
 after none rest = accepted []
 
 -- the outcome of what is left of a list after its first k entries
-unfoldable pub from : {A : Type 0} → (List ℕ → Head A) → List ℕ → ℕ → Outcome A
+unfoldable pub from : {X A : Type 0} → (List X → Head A) → List X → ℕ → Outcome A
 from head [] k = accepted []
 from head (b ∷ s) zero = after (head (b ∷ s)) (from head s)
 from head (b ∷ s) (suc k) = from head s k
 
 -- the outcome of a whole list: element after element, up to the end or the first fault
-unfoldable pub outcome : {A : Type 0} → (List ℕ → Head A) → List ℕ → Outcome A
+unfoldable pub outcome : {X A : Type 0} → (List X → Head A) → List X → Outcome A
 outcome head s = from head s 0

@@ -1,44 +1,41 @@
 -- Conversion as respelling: what it accepts and refuses, what it means, and that two texts of the same elements are respelt alike.
 -- Assumes nothing.
-use Prim.Native.Nat.{ℕ, _+_}
+use Prim.Native.Nat.{ℕ, _+_, _≤_}
 use mathlib.Core.Path.{_≡_, refl, sym, ap, _∙_, subst}
 use mathlib.Core.Logic.{_↔_}
 use mathlib.Core.List.{List, [], _∷_, _++_}
 use native.Mathlib.Omega.{arith}
 use lib.ListN.{length}
-use Rattle.run.specs.Head.{Head, element, refused, none, Outcome, accepted, refusal, from, outcome, join}
+use Rattle.run.specs.Head.{refused, Outcome, accepted, refusal, from, outcome, join}
 use Rattle.run.specs.Grammar.{Run, RunOf, done, more, Stopped}
-use Rattle.run.specs.Answers.{given}
+use Rattle.run.specs.declared.Answer.{Answer}
+use Rattle.run.specs.Answers.{given, same, afterReading}
 use Rattle.run.proofs.Outcomes as outcomes
-use Rattle.alphabet.specs.declared.Form.{Form}
-use Rattle.element.specs.declared.Element.{Element}
-use Rattle.element.specs.Grammar.{Spells, Refuses}
-use Rattle.element.specs.Reading.{headIn}
-use Rattle.element.specs.Spelling.{CanonicalElement, Held, spellElement, spelt, octetsOr10}
-use Rattle.element.proofs.Reader.{reads, refuses-exactly-by, begins-head}
-use Rattle.element.proofs.Writer.{canonical-given, canonical-some, octets-refused, read-held}
-use Rattle.text.specs.Outcomes.{Respells, respellHead, readIn, respellIn, afterReading, convertIn}
-use Rattle.text.specs.Answers.{same}
-use Rattle.text.specs.Table.{FirstNotHeld, ReadingFault, ConvertingFault}
-use Rattle.text.proofs.Heads.{respell-reads, held-proper}
-use Rattle.text.proofs.Tables.{Meets}
-
--- ---- reading, as the record of promises gives it
-
-module _ (f : Form) where
-  pub read-exactly : (text : List ℕ) (es : List Element) → (readIn f text ≡ accepted es) ↔ RunOf (Spells f) text es
-  read-exactly = outcomes.accepts (headIn f) (Spells f) (reads f)
-
-  pub read-meets : (text : List ℕ) → Meets (RunOf (Spells f) text) (ReadingFault f text) (readIn f text)
-  read-meets text =
-      record {
-        runs = read-exactly text;
-        faults = outcomes.refuses-by (headIn f) (Spells f) (reads f) (λ r rest b. Refuses f rest r b) (refuses-exactly-by f) text;
-      }
+use Rattle.run.proofs.Rooms.{Answers, numbered, first-refused, first-accepted}
+use Rattle.run.proofs.Spellers.{spelt-not, Why, why}
+use Rattle.sorts.specs.declared.Form.{Form}
+use Rattle.sorts.specs.declared.FormFound.the-variants.{Is}
+use Rattle.sorts.specs.Forms.{formOf}
+use Rattle.element_words.specs.declared.Element.{Element}
+use Rattle.element_words.specs.Words.{wordsOf}
+use Rattle.element_reading.specs.Grammar.{Spells}
+use Rattle.element_reading.specs.Reading.{headIn}
+use Rattle.element_reading.proofs.Reader.{reads, begins-head}
+use Rattle.element_spelling.specs.ElementOctets.{CanonicalElement, Held, spellElement}
+use Rattle.element_spelling.proofs.Writer.{canonical-given, canonical-some, read-held}
+use Rattle.text_reading.specs.Answers.{readIn, limit, readAnswer}
+use Rattle.text_reading.proofs.Edges.{a-form, within}
+use Rattle.text_reading.proofs.ByTable.{Meets}
+use Rattle.text_reading.proofs.Reading.{accepted-exactly, read-meets, measure-is}
+use Rattle.text.specs.Outcomes.{Respells, respellHead, respellIn, convertIn}
+use Rattle.text.specs.Answers.{convertAnswer, convertText}
+use Rattle.text.specs.Table.{FirstNotHeld, ConvertingFault}
+use Rattle.text.proofs.Respelling.{respell-reads, respells-of, held-proper}
 
 module _ (f g : Form) where
   -- a text respelt piece after piece: its elements, and the octets as their canonical spelling
-  pub respelt-means : {text : List ℕ} {ps ss : List (List ℕ)} → Run (Respells f g) text ps ss → (es : List Element) × Run (Spells f) text ps es × Run (CanonicalElement g) (given same ss) ss es
+  pub respelt-means : {text : List ℕ} {ps ss : List (List ℕ)} → Run (Respells f g) text ps ss
+      → (es : List Element) × Run (Spells f) text ps es × Run (CanonicalElement g) (given same ss) ss es
   unfolding given
   respelt-means done = ([], done, done)
   respelt-means (more (Respells.respells {e = e} sp h c) r) = let i = respelt-means r in (e ∷ i .0, more sp (i .1), more c (i .2))
@@ -49,14 +46,14 @@ module _ (f g : Form) where
   converted-exactly text ss = (forth (readIn f text), back)
     where
       forth : (x : Outcome Element) → afterReading x (respellIn f g text) ≡ accepted ss → RunOf (Respells f g) text ss
-      forth (accepted es) q = outcomes.accepts (respellHead f g) (Respells f g) (respell-reads f g) text ss .0 q
+      forth (accepted es) q = outcomes.accepts (respell-reads f g) text ss .0 q
       forth (refusal r n p d) q = let w : _≡_ {A = ℕ} 0 1 = cc in absurd (omega arith)
 
       back : RunOf (Respells f g) text ss → afterReading (readIn f text) (respellIn f g text) ≡ accepted ss
       back r =
           let m = respelt-means (r .1) in
-          ap (λ (x : Outcome Element). afterReading x (respellIn f g text)) (read-exactly f text (m .0) .1 (r .0, m .1))
-          ∙ outcomes.accepts (respellHead f g) (Respells f g) (respell-reads f g) text ss .1 r
+          ap (λ (x : Outcome Element). afterReading x (respellIn f g text)) (accepted-exactly f text (m .0) .1 (r .0, m .1))
+          ∙ outcomes.accepts (respell-reads f g) text ss .1 r
 
   -- where the text is read, conversion is respelling
   pub read-converts : (text : List ℕ) (es : List Element) → readIn f text ≡ accepted es → convertIn f g text ≡ respellIn f g text
@@ -65,55 +62,61 @@ module _ (f g : Form) where
 
   -- ---- 10, converting
 
-  nothing-spelt : (x : List ℕ) (k r b : ℕ) → octetsOr10 x k ≡ refused r b → x ≡ []
-  nothing-spelt [] k r b q = refl
-  nothing-spelt (o ∷ x) k r b q = let w : _≡_ {A = ℕ} 0 1 = cc in absurd (omega arith)
-
   not-spelt : {e : Element} → spellElement g e ≡ [] → Held g e → ⊥
   not-spelt z (Held.held c) = canonical-some g c (sym (canonical-given g c) ∙ z)
 
   -- a text that is read is refused, respelt, where an element is not held
   module _ (text : List ℕ) (es : List Element) (is-read : readIn f text ≡ accepted es) (r n p d : ℕ) where
-    left : (h : Stopped (Respells f g) (λ rest b. respellHead f g rest ≡ refused r b) text n p d) (x : Head Element) → headIn f (h .rest) ≡ x → spelt g x ≡ refused r (h .behind) → (10 ≡ r) × (0 ≡ h .behind) × FirstNotHeld f g (h .rest)
-    left h (element e k) q z =
-        let v = octets-refused g (spellElement g e) k r (h .behind) z in
-        (v .0, v .1, record { first = e; size = k; begins = reads f .found (h .rest) e k q; not-held = not-spelt (nothing-spelt (spellElement g e) k r (h .behind) z) })
-    left h (refused r′ d′) q z =
+    abbrev Stop : Type 0
+    Stop = Stopped (Respells f g) (λ rest b. respellHead f g rest ≡ refused r b) text n p d
+
+    left : (h : Stop) → Why (spellElement g) (headIn f) (h .rest) r (h .behind) → (10 ≡ r) × (0 ≡ h .behind) × FirstNotHeld f g (h .rest)
+    left h (Why.not-spelt {e} {k} q z er ed) =
+        (sym er, sym ed, record { first = e; size = k; begins = reads f .found (h .rest) e k q; not-held = not-spelt z })
+    left h (Why.by-head q) =
         let m = respelt-means (h .run .1) in
-        let stop : readIn f text ≡ join (m .0) (length (h .front)) (refusal r′ 0 0 d′) = ap (readIn f) (h .whole) ∙ outcomes.joined (headIn f) (Spells f) (reads f) (h .front) (h .rest) (m .0) (read-exactly f (h .front) (m .0) .1 (h .run .0, m .1)) ∙ ap (join (m .0) (length (h .front))) (outcomes.outcome-stop (headIn f) (Spells f) (reads f) (h .rest) r′ d′ q) in
+        let front : readIn f (h .front) ≡ accepted (m .0) = accepted-exactly f (h .front) (m .0) .1 (h .run .0, m .1) in
+        let stop : readIn f text ≡ join (m .0) (length (h .front)) (refusal r 0 0 (h .behind)) =
+        ap (readIn f) (h .whole)
+        ∙ outcomes.joined (reads f) (h .front) (h .rest) (m .0) front
+        ∙ ap (join (m .0) (length (h .front))) (outcomes.outcome-stop (reads f) (h .rest) r (h .behind) q) in
         let w : _≡_ {A = ℕ} 0 1 = cc in
         absurd (omega arith)
-    left h none q z = let w : _≡_ {A = ℕ} 0 1 = cc in absurd (omega arith)
 
     respelt-refused : respellIn f g text ≡ refusal r n p d → ConvertingFault f g text r n p d
-    unfolding respellHead
     respelt-refused e =
-        let h = outcomes.refuses (respellHead f g) (Respells f g) (respell-reads f g) text r n p d .0 e in
-        let v = left h (headIn f (h .rest)) refl (h .here) in
-        subst (λ (i : ℕ). ConvertingFault f g text i n p d) (v .0) (ConvertingFault.not-held (read-exactly f text es .0 is-read) (outcomes.stopped-by h (sym (v .1), v .2)))
+        let h = outcomes.refuses (respell-reads f g) text r n p d .0 e in
+        let v = left h (why (spellElement g) (headIn f) (h .rest) r (h .behind) (h .here)) in
+        subst (λ (i : ℕ). ConvertingFault f g text i n p d) (v .0)
+        (ConvertingFault.not-held (accepted-exactly f text es .0 is-read) (outcomes.stopped-by h (sym (v .1), v .2)))
 
-  first-refused : {rest : List ℕ} → FirstNotHeld f g rest → respellHead f g rest ≡ refused 10 0
-  unfolding respellHead
-  first-refused h = ap (spelt g) (begins-head f (h .begins)) ∙ go (spellElement g (h .first)) refl
+  first-not-held : {rest : List ℕ} → FirstNotHeld f g rest → respellHead f g rest ≡ refused 10 0
+  first-not-held h =
+      spelt-not (spellElement g) (headIn f) (begins-head f (h .begins)) (go (spellElement g (h .first)) refl)
     where
-      go : (x : List ℕ) → spellElement g (h .first) ≡ x → octetsOr10 (spellElement g (h .first)) (h .size) ≡ refused 10 0
-      go [] q = ap (λ (x : List ℕ). octetsOr10 x (h .size)) q
-      go (o ∷ x) q = absurd (h .not-held (Held.held (held-proper f g (read-held f (h .begins .spells)) (o ∷ x) q (λ z. let w : _≡_ {A = ℕ} 0 1 = cc in omega arith))))
+      go : (x : List ℕ) → spellElement g (h .first) ≡ x → length (spellElement g (h .first)) ≡ 0
+      go [] q = ap length q
+      go (o ∷ x) q =
+          let n : o ∷ x ≡ [] → ⊥ = λ z. omega (arith, ap length z) in
+          absurd (h .not-held (Held.held (held-proper f g (read-held f (h .begins .spells)) (o ∷ x) q n)))
 
   convert-refused : {text : List ℕ} {r n p d : ℕ} → ConvertingFault f g text r n p d → convertIn f g text ≡ refusal r n p d
   unfolding convertIn
   convert-refused {text} {r} {n} {p} {d} (ConvertingFault.reading h) =
       ap (λ (x : Outcome Element). afterReading x (respellIn f g text)) (read-meets f text .faults r n p d .1 h)
   convert-refused {text} {n = n} {p} {d} (ConvertingFault.not-held {es} run h) =
-      read-converts text es (read-exactly f text es .1 run)
-      ∙ outcomes.refuses (respellHead f g) (Respells f g) (respell-reads f g) text 10 n p d .1
-      (outcomes.stopped-by h (first-refused (h .here .1) ∙ ap (refused 10) (sym (h .here .0))))
+      read-converts text es (accepted-exactly f text es .1 run)
+      ∙ outcomes.refuses (respell-reads f g) text 10 n p d .1
+      (outcomes.stopped-by h (first-not-held (h .here .1) ∙ ap (refused 10) (sym (h .here .0))))
 
-  refused-converting : (text : List ℕ) (r n p d : ℕ) (x : Outcome Element) → readIn f text ≡ x → afterReading x (respellIn f g text) ≡ refusal r n p d → ConvertingFault f g text r n p d
+  refused-converting : (text : List ℕ) (r n p d : ℕ) (x : Outcome Element) → readIn f text ≡ x
+      → afterReading x (respellIn f g text) ≡ refusal r n p d → ConvertingFault f g text r n p d
   refused-converting text r n p d (accepted es) q e = respelt-refused text es q r n p d e
-  refused-converting text r n p d (refusal r′ n′ p′ d′) q e = ConvertingFault.reading (read-meets f text .faults r n p d .0 (q ∙ reading-too e))
+  refused-converting text r n p d (refusal r′ n′ p′ d′) q e =
+      ConvertingFault.reading (read-meets f text .faults r n p d .0 (q ∙ reading-too e))
     where
-      reading-too : _≡_ {A = Outcome (List ℕ)} (refusal r′ n′ p′ d′) (refusal r n p d) → _≡_ {A = Outcome Element} (refusal r′ n′ p′ d′) (refusal r n p d)
+      reading-too : _≡_ {A = Outcome (List ℕ)} (refusal r′ n′ p′ d′) (refusal r n p d)
+          → _≡_ {A = Outcome Element} (refusal r′ n′ p′ d′) (refusal r n p d)
       reading-too z = let a : r′ ≡ r = cc in let b : n′ ≡ n = cc in let c : p′ ≡ p = cc in let d″ : d′ ≡ d = cc in rw (a, b, c, d″)
 
   pub convert-meets : (text : List ℕ) → Meets (RunOf (Respells f g) text) (ConvertingFault f g text) (convertIn f g text)
@@ -137,24 +140,56 @@ alike-join o k k′ (refusal r n p d) (refusal r′ n′ p′ d′) a = (a .0, a
 -- an element at the head of a text, respelt or not held
 module _ (f h : Form) {p : List ℕ} {e : Element} (sp : Spells f p e) (t : List ℕ) where
   head-none : spellElement h e ≡ [] → respellIn f h (p ++ t) ≡ refusal 10 0 0 0
-  unfolding respellHead
   head-none q =
-      outcomes.outcome-stop (respellHead f h) (Respells f h) (respell-reads f h) (p ++ t) 10 0
-      (ap (spelt h) (reads f .finds p t e sp) ∙ ap (λ (x : List ℕ). octetsOr10 x (length p)) q)
+      outcomes.outcome-stop (respell-reads f h) (p ++ t) 10 0
+      (spelt-not (spellElement h) (headIn f) (reads f .finds p t e sp) (ap length q))
 
   head-some : (b : ℕ) (s : List ℕ) → spellElement h e ≡ b ∷ s → respellIn f h (p ++ t) ≡ join ((b ∷ s) ∷ []) (length p) (respellIn f h t)
   head-some b s q =
-      let c = held-proper f h (read-held f sp) (b ∷ s) q (λ z. let w : _≡_ {A = ℕ} 0 1 = cc in omega arith) in
-      outcomes.outcome-more (respellHead f h) (Respells f h) (respell-reads f h) p t (b ∷ s) (Respells.respells sp (Held.held c) c)
+      outcomes.outcome-more (respell-reads f h) p t (b ∷ s) (respells-of f h sp q (λ z. omega (arith, ap length z)))
 
 module _ (f g h : Form) where
   -- two texts of the same elements are respelt alike
-  alike-more : {p q : List ℕ} {e : Element} → Spells f p e → Spells g q e → (t u : List ℕ) → Alike (respellIn f h t) (respellIn g h u) → (x : List ℕ) → spellElement h e ≡ x → Alike (respellIn f h (p ++ t)) (respellIn g h (q ++ u))
+  alike-more : {p q : List ℕ} {e : Element} → Spells f p e → Spells g q e → (t u : List ℕ) → Alike (respellIn f h t) (respellIn g h u)
+      → (x : List ℕ) → spellElement h e ≡ x → Alike (respellIn f h (p ++ t)) (respellIn g h (q ++ u))
   alike-more sp sq t u a [] z = rw (head-none f h sp t z, head-none g h sq u z) (refl, refl, refl)
   alike-more {p} {q} sp sq t u a (b ∷ s) z =
-      rw (head-some f h sp t b s z, head-some g h sq u b s z) (alike-join (b ∷ s) (length p) (length q) (respellIn f h t) (respellIn g h u) a)
+      rw (head-some f h sp t b s z, head-some g h sq u b s z)
+      (alike-join (b ∷ s) (length p) (length q) (respellIn f h t) (respellIn g h u) a)
 
-  pub respelt-alike : {t u : List ℕ} {ps qs : List (List ℕ)} {es : List Element} → Run (Spells f) t ps es → Run (Spells g) u qs es → Alike (respellIn f h t) (respellIn g h u)
+  pub respelt-alike : {t u : List ℕ} {ps qs : List (List ℕ)} {es : List Element} → Run (Spells f) t ps es → Run (Spells g) u qs es
+      → Alike (respellIn f h t) (respellIn g h u)
   unfolding outcome from
   respelt-alike done done = refl
   respelt-alike (more {s = t} {e = e} sp r) (more {s = u} sq r′) = alike-more sp sq t u (respelt-alike r r′) (spellElement h e) refl
+
+-- ---- the answers, where both forms are known and the text is within the limit
+
+module _ (source target : ℕ) (f g : Form) (is-source : formOf source ≡ Is f) (is-target : formOf target ≡ Is g) (text out : List ℕ) (inside : length text ≤ limit) where
+  -- what a conversion promises: its answer, and what the lent buffer holds after
+  abbrev Promised : Answer → List ℕ → Type 0
+  Promised r out′ = (r ≡ convertAnswer source target text (length out)) × (out′ ≡ convertText source target text out)
+
+  pub converted : (r : Answer) (out′ : List ℕ) → Answers same (length text) out (convertIn f g text) r out′ → Promised r out′
+  unfolding convertAnswer convertText
+  converted r out′ e = (
+    a-form _ _ _ _ _ is-source (a-form _ _ _ _ _ is-target (e .0 ∙ within text _ _ inside)),
+    a-form _ _ _ _ _ is-source (a-form _ _ _ _ _ is-target (e .1 ∙ within text _ _ inside)),
+  )
+
+  module _ (m : Answer) (measured : m ≡ readAnswer source text (length text)) where
+    -- the reading is refused, and so is the conversion
+    pub not-read : (m .number ≡ 0 → ⊥) → Promised m out
+    unfolding convertIn
+    not-read h =
+        converted m out
+        (first-refused wordsOf same (length text) out m (readIn f text) (respellIn f g text)
+        (measured ∙ measure-is source f is-source text inside) h)
+
+    -- the reading is accepted, and the conversion is the respelling
+    pub is-read : m .number ≡ 0 → (r : Answer) (out′ : List ℕ) → Answers same (length text) out (respellIn f g text) r out′
+        → Promised r out′
+    unfolding convertIn
+    is-read h r out′ e =
+        let q = measured ∙ measure-is source f is-source text inside in
+        converted r out′ (first-accepted wordsOf same (length text) out m (readIn f text) (respellIn f g text) r out′ (numbered (reads f) text) q h e)

@@ -11,66 +11,75 @@ use native.Mathlib.Omega.{arith}
 use lib.ListN.{length, drop, length-append}
 use lib.Dec.{leb}
 use Rattle.run.specs.Choice.{pick}
-use Rattle.run.specs.Head.{Outcome, accepted, refusal, join}
+use Rattle.run.specs.Head.{Outcome, accepted, refusal}
 use Rattle.run.specs.Grammar.{Run, RunOf, done, more, Begins}
 use Rattle.run.specs.declared.Answer.{Answer}
-use Rattle.run.specs.Answers.{answer, bare, countOf, given, answerOf, writtenOf, over}
+use Rattle.run.specs.Answers.{answer, bare, shortRoom, countOf, given, answerOf, writtenOf, over, same}
 use Rattle.run.proofs.Outcomes as outcomes
 use Rattle.run.proofs.Outcomes.{run-append, run-length}
 use Rattle.run.proofs.Answers.{given-append}
 use Rattle.run.proofs.OneAnswer.{Once, once, Once-both, once-both}
-use Rattle.alphabet.specs.declared.Form.{Form}
-use Rattle.alphabet.specs.declared.FormFound.{FormFound}
-use Rattle.alphabet.specs.declared.FormFound.the-variants.{Is, Nothing}
-use Rattle.alphabet.specs.Forms.{formOf}
-use Rattle.element.specs.declared.Element.{Element}
-use Rattle.element.specs.declared.Step.{Step}
-use Rattle.element.specs.Words.{wordsOf}
-use Rattle.element.specs.Grammar.{Spells, Refuses}
-use Rattle.element.specs.Reading.{headIn, stepAnswer}
-use Rattle.element.specs.Spelling.{CanonicalElement, Held, Writes, spellHead}
-use Rattle.element.proofs.Reader.{reads}
-use Rattle.element.proofs.Places.{reading-number}
-use Rattle.element.proofs.Sizes.{words-few}
-use Rattle.element.proofs.Writer.{canonical-spells, one-spelling, read-held, writer-reads, writer-refuses-exactly}
-use Rattle.text.specs.Outcomes.{Respells, respellHead, readIn, writeIn, convertIn}
-use Rattle.text.specs.Answers.{limit, inForm, within-limit, same, measureAnswer, readAnswer, readWords, writeAnswer, writeText, convertAnswer, convertText, loneStep}
-use Rattle.text.specs.Table.{NoForm, Answered, Formed, Tells, ReadingFault, WritingFault, ConvertingFault, ReadTable, WriteTable, ConvertTable, MeasureTable, LoneTable}
-use Rattle.text.proofs.Edges.{a-form, fitting, converted}
-use Rattle.text.proofs.Heads.{respell-reads}
-use Rattle.text.proofs.Loops.{count-is-place}
-use Rattle.text.proofs.Tables.{Meets, none-of-three, by-table, by-form, in-its-form, no-form-exactly, tells, kept-in-form}
-use Rattle.text.proofs.Converting.{read-meets, convert-meets, respelt-means, read-converts, Alike, respelt-alike}
-use Rattle.text.proofs.Measures.{measured-exactly}
-use Rattle.text.proofs.Lone.{lone-exactly}
+use Rattle.sorts.specs.declared.Form.{Form}
+use Rattle.sorts.specs.declared.FormFound.{FormFound}
+use Rattle.sorts.specs.declared.FormFound.the-variants.{Is, Nothing}
+use Rattle.sorts.specs.Forms.{formOf, inForm}
+use Rattle.element_words.specs.declared.Element.{Element}
+use Rattle.element_reading.specs.declared.Step.{Step}
+use Rattle.element_words.specs.Words.{wordsOf}
+use Rattle.element_reading.specs.Grammar.{Spells, Refuses}
+use Rattle.element_reading.specs.Reading.{stepAnswer}
+use Rattle.element_spelling.specs.ElementOctets.{CanonicalElement, Held, Writes}
+use Rattle.element_reading.proofs.Reader.{reads}
+use Rattle.element_reading.proofs.Places.{reading-number}
+use Rattle.element_spelling.proofs.Writer.{canonical-spells, one-spelling, read-held, writer-reads, writer-refuses-exactly}
+use Rattle.text_reading.specs.Answers.{readIn, limit, within-limit, readAnswer, readWords, loneStep}
+use Rattle.text_reading.specs.Table.{Answered, Formed, Tells, ReadingFault, ReadTable, LoneTable}
+use Rattle.text_reading.proofs.Edges.{a-form}
+use Rattle.text_reading.proofs.ByTable.{Meets, by-table, by-form, in-its-form, no-form-exactly, tells, kept-in-form}
+use Rattle.text_reading.proofs.Steps.{count-is-place}
+use Rattle.text_reading.proofs.Reading.{read-meets, words-fit}
+use Rattle.text_reading.proofs.Lone.{lone-exactly}
+use Rattle.text.specs.Outcomes.{Respells, writeIn, convertIn}
+use Rattle.text.specs.Answers.{writeAnswer, writeText, convertAnswer, convertText}
+use Rattle.text.specs.Table.{WritingFault, ConvertingFault, WriteTable, ConvertTable}
+use Rattle.text.proofs.Respelling.{respell-reads}
+use Rattle.text.proofs.Converting.{converted, convert-meets, respelt-means, read-converts, Alike, respelt-alike}
 use Rattle.text.proofs.Readings.{All, readings, sixteen}
+use Rattle.sorts.specs.Forms.{NoForm}
+use Rattle.sorts.proofs.FormNumbers.{none-exactly}
 
 -- ======== Demand 1: every input gets an answer, and each number is given exactly when document 01's table and order say so
 
 -- Each number from 1 to 12 is given exactly when the table and its order say so, with its element, place and count: the four numbers, and what
 -- the lent buffer holds after, are those of the table's row.
-pub read-exactly : (form : ℕ) (text words : List ℕ) (a : Answer) (after : List ℕ) → ((readAnswer form text (length words) ≡ a) × (readWords form text words ≡ after)) ↔ ReadTable form text words a after
+pub read-exactly : (form : ℕ) (text words : List ℕ) (a : Answer) (after : List ℕ)
+    → ((readAnswer form text (length words) ≡ a) × (readWords form text words ≡ after)) ↔ ReadTable form text words a after
 unfolding readAnswer readWords
 read-exactly form text words = by-form form words _ _ _ (λ f. by-table wordsOf _ _ (readIn f text) (read-meets f text) text words)
 
 write-meets : (f : Form) (words : List ℕ) → Meets (RunOf (Writes f) words) (WritingFault f words) (writeIn f words)
 write-meets f words =
     record {
-      runs = outcomes.accepts (spellHead f) (Writes f) (writer-reads f) words;
-      faults = outcomes.refuses-by (spellHead f) (Writes f) (writer-reads f) _ (writer-refuses-exactly f) words;
+      runs = outcomes.accepts (writer-reads f) words;
+      faults = outcomes.refuses-by (writer-reads f) _ (writer-refuses-exactly f) words;
     }
 
-pub write-exactly : (form : ℕ) (words text : List ℕ) (a : Answer) (after : List ℕ) → ((writeAnswer form words (length text) ≡ a) × (writeText form words text ≡ after)) ↔ WriteTable form words text a after
+pub write-exactly : (form : ℕ) (words text : List ℕ) (a : Answer) (after : List ℕ)
+    → ((writeAnswer form words (length text) ≡ a) × (writeText form words text ≡ after)) ↔ WriteTable form words text a after
 unfolding writeAnswer writeText
 write-exactly form words text = by-form form text _ _ _ (λ f. by-table same _ _ (writeIn f words) (write-meets f words) words text)
 
-pub convert-exactly : (source target : ℕ) (text out : List ℕ) (a : Answer) (after : List ℕ) → ((convertAnswer source target text (length out) ≡ a) × (convertText source target text out ≡ after)) ↔ ConvertTable source target text out a after
+pub convert-exactly : (source target : ℕ) (text out : List ℕ) (a : Answer) (after : List ℕ)
+    → ((convertAnswer source target text (length out) ≡ a) × (convertText source target text out ≡ after)) ↔ ConvertTable source target text out a after
 unfolding convertAnswer convertText
 convert-exactly source target text out =
     by-form source out _ _ _ (λ f. by-form target out _ _ _ (λ g. by-table same _ _ (convertIn f g text) (convert-meets f g text) text out))
 
-pub measure-exactly : (form : ℕ) (text : List ℕ) (a : Answer) → (measureAnswer form text ≡ a) ↔ MeasureTable form text a
-measure-exactly = measured-exactly
+-- A text is measured by reading it with room for as many words as it has octets, which is never short (`room-enough`): the text itself stands
+-- for the lent buffer here.
+pub measure-exactly : (form : ℕ) (text : List ℕ) (a : Answer) (after : List ℕ)
+    → ((readAnswer form text (length text) ≡ a) × (readWords form text text ≡ after)) ↔ ReadTable form text text a after
+measure-exactly form text = read-exactly form text text
 
 pub read-element-exactly : (form : ℕ) (text : List ℕ) (at : ℕ) (s : Step) → (loneStep form text at ≡ s) ↔ LoneTable form text at s
 read-element-exactly = lone-exactly
@@ -92,28 +101,36 @@ converting-numbered f g text r n p d h = go h
     go {i} {j} {k} {l} (ConvertingFault.reading h) = reading-numbered f text i j k l h
     go (ConvertingFault.not-held run k) = (omega arith, omega arith, λ e. omega arith)
 
-pub read-tells : (form : ℕ) (f : Form) → formOf form ≡ Is f → (text words : List ℕ) → Tells wordsOf (RunOf (Spells f) text) (ReadingFault f text) text words (readAnswer form text (length words)) (readWords form text words)
+pub read-tells : (form : ℕ) (f : Form) → formOf form ≡ Is f → (text words : List ℕ)
+    → Tells wordsOf (RunOf (Spells f) text) (ReadingFault f text) text words (readAnswer form text (length words)) (readWords form text words)
 unfolding readAnswer readWords
 read-tells form f q text words =
-    tells (reading-numbered f text) (in-its-form form words _ _ _ (λ g. by-table wordsOf _ _ (readIn g text) (read-meets g text) text words) f q)
+    tells (reading-numbered f text)
+    (in-its-form form words _ _ _ (λ g. by-table wordsOf _ _ (readIn g text) (read-meets g text) text words) f q)
 
-pub write-tells : (form : ℕ) (f : Form) → formOf form ≡ Is f → (words text : List ℕ) → Tells same (RunOf (Writes f) words) (WritingFault f words) words text (writeAnswer form words (length text)) (writeText form words text)
+pub write-tells : (form : ℕ) (f : Form) → formOf form ≡ Is f → (words text : List ℕ)
+    → Tells same (RunOf (Writes f) words) (WritingFault f words) words text (writeAnswer form words (length text)) (writeText form words text)
 unfolding writeAnswer writeText
 write-tells form f q words text =
-    tells (writing-numbered f words) (in-its-form form text _ _ _ (λ g. by-table same _ _ (writeIn g words) (write-meets g words) words text) f q)
+    tells (writing-numbered f words)
+    (in-its-form form text _ _ _ (λ g. by-table same _ _ (writeIn g words) (write-meets g words) words text) f q)
 
-pub convert-tells : (source target : ℕ) (f g : Form) → formOf source ≡ Is f → formOf target ≡ Is g → (text out : List ℕ) → Tells same (RunOf (Respells f g) text) (ConvertingFault f g text) text out (convertAnswer source target text (length out)) (convertText source target text out)
+pub convert-tells : (source target : ℕ) (f g : Form) → formOf source ≡ Is f → formOf target ≡ Is g → (text out : List ℕ)
+    → Tells same (RunOf (Respells f g) text) (ConvertingFault f g text) text out (convertAnswer source target text (length out)) (convertText source target text out)
 unfolding convertAnswer convertText
 convert-tells source target f g q p text out =
     subst₂ (Tells same (RunOf (Respells f g) text) (ConvertingFault f g text) text out) (a-form _ _ _ _ _ q refl) (a-form _ _ _ _ _ q refl)
-    (tells (converting-numbered f g text) (in-its-form target out _ _ _ (λ h. by-table same _ _ (convertIn f h text) (convert-meets f h text) text out) g p))
+    (tells (converting-numbered f g text)
+    (in-its-form target out _ _ _ (λ h. by-table same _ _ (convertIn f h text) (convert-meets f h text) text out) g p))
 
-pub read-never-10 : (form : ℕ) (f : Form) → formOf form ≡ Is f → (text words : List ℕ) → readAnswer form text (length words) .number ≡ 10 → ⊥
+pub read-never-10 : (form : ℕ) (f : Form) → formOf form ≡ Is f → (text words : List ℕ) → readAnswer form text (length words) .number ≡ 10
+    → ⊥
 read-never-10 form f q text words e =
     let t = read-tells form f q text words .is-fault (omega arith) (omega arith) (λ z. omega arith) in
     omega (arith, reading-low f text _ _ _ _ (t .2) .1)
 
-pub write-only-10 : (form : ℕ) (f : Form) → formOf form ≡ Is f → (words text : List ℕ) → 0 < writeAnswer form words (length text) .number → writeAnswer form words (length text) .number < 9 → ⊥
+pub write-only-10 : (form : ℕ) (f : Form) → formOf form ≡ Is f → (words text : List ℕ) → 0 < writeAnswer form words (length text) .number
+    → writeAnswer form words (length text) .number < 9 → ⊥
 write-only-10 form f q words text a b =
     let t = write-tells form f q words text .is-fault a (omega arith) (λ z. omega arith) in
     let z = t .2 .here .0 in
@@ -124,56 +141,71 @@ pub read-11 : (form : ℕ) (text words : List ℕ) → (readAnswer form text (le
 unfolding readAnswer
 read-11 form text words =
     no-form-exactly form words _ _ _ (λ f. by-table wordsOf _ _ (readIn f text) (read-meets f text) text words)
-    (λ f q. tells (reading-numbered f text) (by-table wordsOf _ _ (readIn f text) (read-meets f text) text words _ _ .0 (refl, refl)) .not-11)
+    (λ f q. tells (reading-numbered f text)
+    (by-table wordsOf _ _ (readIn f text) (read-meets f text) text words _ _ .0 (refl, refl)) .not-11)
 
 pub write-11 : (form : ℕ) (words text : List ℕ) → (writeAnswer form words (length text) .number ≡ 11) ↔ NoForm form
 unfolding writeAnswer
 write-11 form words text =
     no-form-exactly form text _ _ _ (λ f. by-table same _ _ (writeIn f words) (write-meets f words) words text)
-    (λ f q. tells (writing-numbered f words) (by-table same _ _ (writeIn f words) (write-meets f words) words text _ _ .0 (refl, refl)) .not-11)
+    (λ f q. tells (writing-numbered f words)
+    (by-table same _ _ (writeIn f words) (write-meets f words) words text _ _ .0 (refl, refl)) .not-11)
 
 -- "11 (source, then target)": either gives the same four numbers
-pub convert-11 : (source target : ℕ) (text out : List ℕ) → (convertAnswer source target text (length out) .number ≡ 11) ↔ (NoForm source ⊎ NoForm target)
+pub convert-11 : (source target : ℕ) (text out : List ℕ)
+    → (convertAnswer source target text (length out) .number ≡ 11) ↔ (NoForm source ⊎ NoForm target)
 unfolding convertAnswer
 convert-11 source target text out = (forth (formOf source) (formOf target) refl refl, back (formOf source) (formOf target) refl refl)
   where
     answer-by : FormFound → FormFound → Answer
-    answer-by x y = inForm x (bare 11) (λ f. inForm y (bare 11) (λ g. within-limit text (bare 12) (answerOf same (length text) (length out) (convertIn f g text))))
+    answer-by x y =
+        inForm x (bare 11) (λ f. inForm y (bare 11) (λ g. within-limit text (bare 12) (answerOf same (length text) (length out) (convertIn f g text))))
 
     forth : (x y : FormFound) → formOf source ≡ x → formOf target ≡ y → answer-by x y .number ≡ 11 → NoForm source ⊎ NoForm target
     forth (Is f) (Is g) q p e =
-        absurd (tells (converting-numbered f g text) (by-table same _ _ (convertIn f g text) (convert-meets f g text) text out _ _ .0 (refl, refl)) .not-11 e)
-    forth (Is f) Nothing q p e = inr (none-of-three target .0 p)
-    forth Nothing y q p e = inl (none-of-three source .0 q)
+        absurd (tells (converting-numbered f g text)
+        (by-table same _ _ (convertIn f g text) (convert-meets f g text) text out _ _ .0 (refl, refl)) .not-11 e)
+    forth (Is f) Nothing q p e = inr (none-exactly target .0 p)
+    forth Nothing y q p e = inl (none-exactly source .0 q)
 
     back : (x y : FormFound) → formOf source ≡ x → formOf target ≡ y → NoForm source ⊎ NoForm target → answer-by x y .number ≡ 11
-    back (Is f) (Is g) q p (inl n) = let z = sym q ∙ none-of-three source .1 n in let w : _≡_ {A = ℕ} 0 1 = cc in absurd (omega arith)
-    back (Is f) (Is g) q p (inr n) = let z = sym p ∙ none-of-three target .1 n in let w : _≡_ {A = ℕ} 0 1 = cc in absurd (omega arith)
+    back (Is f) (Is g) q p (inl n) = let z = sym q ∙ none-exactly source .1 n in let w : _≡_ {A = ℕ} 0 1 = cc in absurd (omega arith)
+    back (Is f) (Is g) q p (inr n) = let z = sym p ∙ none-exactly target .1 n in let w : _≡_ {A = ℕ} 0 1 = cc in absurd (omega arith)
     back (Is f) Nothing q p e = refl
     back Nothing y q p e = refl
 
 -- Every refusal leaves each lent buffer as it was.
-pub read-keeps : (form : ℕ) (text words : List ℕ) → (readAnswer form text (length words) .number ≡ 0 → ⊥) → readWords form text words ≡ words
+pub read-keeps : (form : ℕ) (text words : List ℕ) → (readAnswer form text (length words) .number ≡ 0 → ⊥)
+    → readWords form text words ≡ words
 read-keeps form text words =
     kept-in-form (λ f a l h. tells (reading-numbered f text) h .kept) (read-exactly form text words _ _ .0 (refl, refl))
 
-pub write-keeps : (form : ℕ) (words text : List ℕ) → (writeAnswer form words (length text) .number ≡ 0 → ⊥) → writeText form words text ≡ text
+pub write-keeps : (form : ℕ) (words text : List ℕ) → (writeAnswer form words (length text) .number ≡ 0 → ⊥)
+    → writeText form words text ≡ text
 write-keeps form words text =
     kept-in-form (λ f a l h. tells (writing-numbered f words) h .kept) (write-exactly form words text _ _ .0 (refl, refl))
 
-pub convert-keeps : (source target : ℕ) (text out : List ℕ) → (convertAnswer source target text (length out) .number ≡ 0 → ⊥) → convertText source target text out ≡ out
+pub convert-keeps : (source target : ℕ) (text out : List ℕ) → (convertAnswer source target text (length out) .number ≡ 0 → ⊥)
+    → convertText source target text out ≡ out
 convert-keeps source target text out =
-    kept-in-form (λ f b l. kept-in-form (λ g a l h. tells (converting-numbered f g text) h .kept)) (convert-exactly source target text out _ _ .0 (refl, refl))
+    kept-in-form (λ f b l. kept-in-form (λ g a l h. tells (converting-numbered f g text) h .kept))
+    (convert-exactly source target text out _ _ .0 (refl, refl))
 
 -- The four numbers of a lone read: "A lone read's refusal has element 0".
-pub read-element-refused : (form : ℕ) (f : Form) → formOf form ≡ Is f → (text : List ℕ) (at r d : ℕ) → length text ≤ limit → Refuses f (drop at text) r d → stepAnswer (loneStep form text at) ≡ answer r 0 at (at + d)
+pub read-element-refused : (form : ℕ) (f : Form) → formOf form ≡ Is f → (text : List ℕ) (at r d : ℕ) → length text ≤ limit
+    → Refuses f (drop at text) r d → stepAnswer (loneStep form text at) ≡ answer r 0 at (at + d)
 read-element-refused form f q text at r d l h = ap stepAnswer (lone-exactly form text at _ .1 (LoneTable.refused q l h))
 
-pub read-element-read : (form : ℕ) (f : Form) → formOf form ≡ Is f → (text : List ℕ) (at k : ℕ) (e : Element) → length text ≤ limit → Begins (Spells f) (drop at text) e k → stepAnswer (loneStep form text at) ≡ answer 0 1 (at + k) (length (wordsOf e))
+pub read-element-read : (form : ℕ) (f : Form) → formOf form ≡ Is f → (text : List ℕ) (at k : ℕ) (e : Element) → length text ≤ limit
+    → Begins (Spells f) (drop at text) e k → stepAnswer (loneStep form text at) ≡ answer 0 1 (at + k) (length (wordsOf e))
 read-element-read form f q text at k e l b = ap stepAnswer (lone-exactly form text at _ .1 (LoneTable.element q l b))
 
 pub read-element-11 : (form : ℕ) (text : List ℕ) (at : ℕ) → (stepAnswer (loneStep form text at) .number ≡ 11) ↔ NoForm form
-read-element-11 form text at = (forth (lone-exactly form text at _ .0 refl), λ n. ap (λ (s : Step). stepAnswer s .number) (lone-exactly form text at _ .1 (LoneTable.no-form n)))
+read-element-11 form text at = (
+  forth (lone-exactly form text at _ .0 refl),
+  λ n. ap (λ (s : Step). stepAnswer s .number)
+      (lone-exactly form text at _ .1 (LoneTable.no-form n)),
+)
   where
     forth : {s : Step} → LoneTable form text at s → stepAnswer s .number ≡ 11 → NoForm form
     forth (LoneTable.no-form n) e = n
@@ -182,8 +214,13 @@ read-element-11 form text at = (forth (lone-exactly form text at _ .0 refl), λ 
     forth (LoneTable.element q l b) e = absurd (omega arith)
     forth (LoneTable.refused {f} q l h) e = absurd (omega (arith, reading-number f h .1))
 
-pub read-element-12 : (form : ℕ) (f : Form) → formOf form ≡ Is f → (text : List ℕ) (at : ℕ) → (stepAnswer (loneStep form text at) .number ≡ 12) ↔ (limit < length text)
-read-element-12 form f q text at = (forth (lone-exactly form text at _ .0 refl), λ l. ap (λ (s : Step). stepAnswer s .number) (lone-exactly form text at _ .1 (LoneTable.over-limit q l)))
+pub read-element-12 : (form : ℕ) (f : Form) → formOf form ≡ Is f → (text : List ℕ) (at : ℕ)
+    → (stepAnswer (loneStep form text at) .number ≡ 12) ↔ (limit < length text)
+read-element-12 form f q text at = (
+  forth (lone-exactly form text at _ .0 refl),
+  λ l. ap (λ (s : Step). stepAnswer s .number)
+      (lone-exactly form text at _ .1 (LoneTable.over-limit q l)),
+)
   where
     forth : {s : Step} → LoneTable form text at s → stepAnswer s .number ≡ 12 → limit < length text
     forth (LoneTable.no-form n) e = absurd (omega arith)
@@ -193,25 +230,21 @@ read-element-12 form f q text at = (forth (lone-exactly form text at _ .0 refl),
     forth (LoneTable.refused {f} q l h) e = absurd (omega (arith, reading-number f h .1))
 
 -- No octet gives more than one word: room for as many words as the text has octets is never short.
-pub words-fit : {f : Form} {text : List ℕ} {ps : List (List ℕ)} {es : List Element} → Run (Spells f) text ps es → length (given wordsOf es) ≤ length text
-unfolding given
-words-fit done = omega arith
-words-fit (more {p} {s} {e = e} {es = es} sp r) = omega (arith, words-fit r, words-few sp, length-append p s, length-append (wordsOf e) (given wordsOf es))
-
-pub room-enough : (form : ℕ) (f : Form) → formOf form ≡ Is f → (text words : List ℕ) → length text ≤ length words → readAnswer form text (length words) .number ≡ 9 → ⊥
+pub room-enough : (form : ℕ) (f : Form) → formOf form ≡ Is f → (text words : List ℕ) → length text ≤ length words
+    → readAnswer form text (length words) .number ≡ 9 → ⊥
 room-enough form f q text words h e =
     let t = read-tells form f q text words .is-9 e in
     omega (arith, t .3, words-fit (t .2 .1))
 
 -- Each public function's promise allows one answer. The definitions are those of the functions' `ensures`.
 pub one-answer : (form target : ℕ) (text words out : List ℕ) (at : ℕ)
-    → Once (measureAnswer form text)  -- measure
+    → Once (readAnswer form text (length text))  -- measure
     × Once-both (readAnswer form text (length words)) (readWords form text words)  -- read
     × Once-both (writeAnswer form words (length out)) (writeText form words out)  -- write
     × Once-both (convertAnswer form target text (length out)) (convertText form target text out)  -- convert
     × Once (loneStep form text at)  -- read_element
 one-answer form target text words out at = (
-  once (measureAnswer form text),
+  once (readAnswer form text (length text)),
   once-both (readAnswer form text (length words)) (readWords form text words),
   once-both (writeAnswer form words (length out)) (writeText form words out),
   once-both (convertAnswer form target text (length out)) (convertText form target text out),
@@ -222,14 +255,17 @@ one-answer form target text words out at = (
 
 module _ (form : ℕ) (f : Form) (is-form : formOf form ≡ Is f) where
   -- A text within the limit, with room enough lent, is accepted exactly when it is a run of elements of its form,
-  pub accepts-exactly : (text words : List ℕ) → (readAnswer form text (length words) .number ≡ 0) ↔ ((es : List Element) × (length text ≤ limit) × RunOf (Spells f) text es × (length (given wordsOf es) ≤ length words))
+  pub accepts-exactly : (text words : List ℕ)
+      → (readAnswer form text (length words) .number ≡ 0) ↔ ((es : List Element) × (length text ≤ limit) × RunOf (Spells f) text es × (length (given wordsOf es) ≤ length words))
   accepts-exactly text words = (
     λ e. let t = read-tells form f is-form text words .is-0 e in (t .0, t .1, t .2, t .3),
-    λ h. ap (λ (a : Answer). a .number) (read-exactly form text words _ _ .1 (Formed.of-form is-form (Answered.accepted (h .1) (h .2) (h .3))) .0),
+    λ h. ap (λ (a : Answer). a .number)
+        (read-exactly form text words _ _ .1 (Formed.of-form is-form (Answered.accepted (h .1) (h .2) (h .3))) .0),
   )
 
   -- with exactly their words and number
-  pub read-accepted : (text words : List ℕ) (es : List Element) → length text ≤ limit → RunOf (Spells f) text es → length (given wordsOf es) ≤ length words
+  pub read-accepted : (text words : List ℕ) (es : List Element) → length text ≤ limit → RunOf (Spells f) text es
+      → length (given wordsOf es) ≤ length words
       → (readAnswer form text (length words) ≡ answer 0 (length es) (length text) (length (given wordsOf es))) × (readWords form text words ≡ over words (given wordsOf es))
   read-accepted text words es l r h = read-exactly form text words _ _ .1 (Formed.of-form is-form (Answered.accepted l r h))
 
@@ -237,14 +273,23 @@ module _ (form : ℕ) (f : Form) (is-form : formOf form ≡ Is f) where
   pub before-refused : (text words : List ℕ) (r n p c : ℕ) → 1 ≤ r → r ≤ 8 → readAnswer form text (length words) ≡ answer r n p c
       → (front : List ℕ) × (rest : List ℕ) × (es : List Element) × (text ≡ front ++ rest) × ((room : List ℕ) → length (given wordsOf es) ≤ length room → readAnswer form front (length room) ≡ answer 0 n p (length (given wordsOf es)))
   before-refused text words r n p c h k e =
-      let t = subst (λ (a : Answer). Tells wordsOf (RunOf (Spells f) text) (ReadingFault f text) text words a (readWords form text words)) e (read-tells form f is-form text words) .is-fault (omega arith) (omega arith) (λ z. omega arith) in
+      let t =
+      subst (λ (a : Answer). Tells wordsOf (RunOf (Spells f) text) (ReadingFault f text) text words a (readWords form text words)) e
+      (read-tells form f is-form text words) .is-fault (omega arith) (omega arith) (λ z. omega arith) in
       let s = t .2 in
-      let l : length (s .front) ≤ limit = omega (arith, t .1, ap length (s .whole), length-append (s .front) (s .rest)) in
-      (s .front, s .rest, s .elements, s .whole, λ room i. read-accepted (s .front) room (s .elements) l (s .run) i .0 ∙ ap₂ (λ (a b : ℕ). answer 0 a b (length (given wordsOf (s .elements)))) (sym (s .element-number)) (sym (s .first-place)))
+      let l : length (s .front) ≤ limit = omega (arith, t .1, ap length (s .whole), length-append (s .front) (s .rest)) in (
+        s .front,
+        s .rest,
+        s .elements,
+        s .whole,
+        λ room i. read-accepted (s .front) room (s .elements) l (s .run) i .0 ∙ ap₂
+            (λ (a b : ℕ). answer 0 a b (length (given wordsOf (s .elements)))) (sym (s .element-number)) (sym (s .first-place)),
+      )
 
 -- It is a run in one way only.
-pub one-way : (f : Form) {text : List ℕ} {ps qs : List (List ℕ)} {es fs : List Element} → Run (Spells f) text ps es → Run (Spells f) text qs fs → (ps ≡ qs) × (es ≡ fs)
-one-way f = outcomes.one-run (headIn f) (Spells f) (reads f)
+pub one-way : (f : Form) {text : List ℕ} {ps qs : List (List ℕ)} {es fs : List Element} → Run (Spells f) text ps es
+    → Run (Spells f) text qs fs → (ps ≡ qs) × (es ≡ fs)
+one-way f = outcomes.one-run (reads f)
 
 module _ (f : Form) where
   -- a list of elements that the form holds
@@ -263,7 +308,8 @@ module _ (f : Form) where
   has-canonical (and (Held.held {s} c) h) = let i = has-canonical h in (s ++ i .0, (s ∷ i .1 .0, more c (i .1 .1)))
 
   -- and only one.
-  pub one-canonical : {s t : List ℕ} {ps qs : List (List ℕ)} {es : List Element} → Run (CanonicalElement f) s ps es → Run (CanonicalElement f) t qs es → s ≡ t
+  pub one-canonical : {s t : List ℕ} {ps qs : List (List ℕ)} {es : List Element} → Run (CanonicalElement f) s ps es
+      → Run (CanonicalElement f) t qs es → s ≡ t
   one-canonical done done = refl
   one-canonical (more c r) (more k q) = ap₂ _++_ (one-spelling f c k) (one-canonical r q)
 
@@ -276,7 +322,8 @@ module _ (f : Form) where
   canonical-held (more c r) = and (Held.held c) (canonical-held r)
 
   -- the words of a list of elements, and its canonical spelling: writing goes from the one to the other, piece by piece
-  writes-run : {s : List ℕ} {ps : List (List ℕ)} {es : List Element} → AllHeld es → Run (CanonicalElement f) s ps es → RunOf (Writes f) (given wordsOf es) ps × (given same ps ≡ s)
+  writes-run : {s : List ℕ} {ps : List (List ℕ)} {es : List Element} → AllHeld es → Run (CanonicalElement f) s ps es
+      → RunOf (Writes f) (given wordsOf es) ps × (given same ps ≡ s)
   unfolding given
   writes-run none done = (([], done), refl)
   writes-run (and {e} h a) (more {p} c r) =
@@ -303,38 +350,57 @@ module _ (f : Form) where
 
 module _ (form : ℕ) (f : Form) (is-form : formOf form ≡ Is f) where
   -- Each list of elements that a form holds is written, in its canonical spelling (within the limit, with room enough lent),
-  pub write-accepted : (s text : List ℕ) (es : List Element) → length (given wordsOf es) ≤ limit → AllHeld f es → RunOf (CanonicalElement f) s es → length s ≤ length text
+  pub write-accepted : (s text : List ℕ) (es : List Element) → length (given wordsOf es) ≤ limit → AllHeld f es
+      → RunOf (CanonicalElement f) s es → length s ≤ length text
       → (writeAnswer form (given wordsOf es) (length text) ≡ answer 0 (length es) (length (given wordsOf es)) (length s)) × (writeText form (given wordsOf es) text ≡ over text s)
   write-accepted s text es l a r h =
       let w = writes-run f a (r .1) in
-      let e = write-exactly form (given wordsOf es) text _ _ .1 (Formed.of-form is-form (Answered.accepted l (w .0) (subst (λ (u : List ℕ). length u ≤ length text) (sym (w .1)) h))) in
-      (e .0 ∙ ap₂ (λ (k : ℕ) (u : List ℕ). answer 0 k (length (given wordsOf es)) (length u)) (run-length (r .1)) (w .1), e .1 ∙ ap (over text) (w .1))
+      let e =
+      write-exactly form (given wordsOf es) text _ _ .1
+      (Formed.of-form is-form (Answered.accepted l (w .0) (subst (λ (u : List ℕ). length u ≤ length text) (sym (w .1)) h))) in (
+        e .0 ∙ ap₂ (λ (k : ℕ) (u : List ℕ). answer 0 k (length (given wordsOf es)) (length u)) (run-length (r .1)) (w .1),
+        e .1 ∙ ap
+            (over text) (w .1),
+      )
 
   -- and nothing else is.
   pub written-means : (words text : List ℕ) → writeAnswer form words (length text) .number ≡ 0
       → (s : List ℕ) × (es : List Element) × AllHeld f es × (words ≡ given wordsOf es) × RunOf (CanonicalElement f) s es × (writeAnswer form words (length text) ≡ answer 0 (length es) (length words) (length s)) × (writeText form words text ≡ over text s)
   written-means words text e =
       let t = write-tells form f is-form words text .is-0 e in
-      let w = written-run f (t .2 .1) in
-      (given same (t .0), w .elements, w .all-held, w .their-words, (t .0, w .canonical), t .4 ∙ ap (λ (k : ℕ). answer 0 k (length words) (length (given same (t .0)))) (run-length (w .canonical)), t .5)
+      let w = written-run f (t .2 .1) in (
+        given same (t .0),
+        w .elements,
+        w .all-held,
+        w .their-words,
+        (t .0, w .canonical),
+        t .4 ∙ ap
+            (λ (k : ℕ). answer 0 k (length words) (length (given same (t .0)))) (run-length (w .canonical)),
+        t .5,
+      )
 
   -- That spelling, if within the limit, reads back as that list.
-  pub reads-back : (s words : List ℕ) (es : List Element) → length s ≤ limit → RunOf (CanonicalElement f) s es → length (given wordsOf es) ≤ length words
+  pub reads-back : (s words : List ℕ) (es : List Element) → length s ≤ limit → RunOf (CanonicalElement f) s es
+      → length (given wordsOf es) ≤ length words
       → (readAnswer form s (length words) ≡ answer 0 (length es) (length s) (length (given wordsOf es))) × (readWords form s words ≡ over words (given wordsOf es))
   reads-back s words es l r = read-accepted form f is-form s words es l (r .0, canonical-run f (r .1))
 
   -- Words within the limit are refused with 10 at the first that is no element held: behind a run of elements that the form writes, no words of one
   -- that it holds stand first.
-  pub write-refused : (words text : List ℕ) (n p : ℕ) → length words ≤ limit → (writeAnswer form words (length text) ≡ answer 10 n p 0) ↔ ((d : ℕ) × WritingFault f words 10 n p d)
+  pub write-refused : (words text : List ℕ) (n p : ℕ) → length words ≤ limit
+      → (writeAnswer form words (length text) ≡ answer 10 n p 0) ↔ ((d : ℕ) × WritingFault f words 10 n p d)
   write-refused words text n p l = (forth, λ h. write-exactly form words text _ _ .1 (Formed.of-form is-form (Answered.fault l (h .1))) .0)
     where
       forth : writeAnswer form words (length text) ≡ answer 10 n p 0 → (d : ℕ) × WritingFault f words 10 n p d
       forth e =
-          let t = subst (λ (a : Answer). Tells same (RunOf (Writes f) words) (WritingFault f words) words text a (writeText form words text)) e (write-tells form f is-form words text) .is-fault (omega arith) (omega arith) (λ z. omega arith) in
+          let t =
+          subst (λ (a : Answer). Tells same (RunOf (Writes f) words) (WritingFault f words) words text a (writeText form words text)) e
+          (write-tells form f is-form words text) .is-fault (omega arith) (omega arith) (λ z. omega arith) in
           (t .0, t .2)
 
   -- And only those words are that are no list of elements that the form holds.
-  pub refused-no-list : (words text : List ℕ) → length words ≤ limit → (writeAnswer form words (length text) .number ≡ 10) ↔ ((es : List Element) → AllHeld f es → words ≡ given wordsOf es → ⊥)
+  pub refused-no-list : (words text : List ℕ) → length words ≤ limit
+      → (writeAnswer form words (length text) .number ≡ 10) ↔ ((es : List Element) → AllHeld f es → words ≡ given wordsOf es → ⊥)
   refused-no-list words text l = (forth, back (writeIn f words) refl)
     where
       forth : writeAnswer form words (length text) .number ≡ 10 → (es : List Element) → AllHeld f es → words ≡ given wordsOf es → ⊥
@@ -342,21 +408,27 @@ module _ (form : ℕ) (f : Form) (is-form : formOf form ≡ Is f) where
           let t = write-tells form f is-form words text .is-fault (omega arith) (omega arith) (λ z. omega arith) in
           let refused = write-meets f words .faults _ _ _ _ .1 (t .2) in
           let c = has-canonical f a in
-          let accepted-too = write-meets f words .runs (c .1 .0) .1 (subst (λ (u : List ℕ). RunOf (Writes f) u (c .1 .0)) (sym w) (writes-run f a (c .1 .1) .0)) in
+          let accepted-too =
+          write-meets f words .runs (c .1 .0) .1
+          (subst (λ (u : List ℕ). RunOf (Writes f) u (c .1 .0)) (sym w) (writes-run f a (c .1 .1) .0)) in
           let z : _≡_ {A = ℕ} 0 1 = cc in
           omega arith
 
-      back : (x : Outcome (List ℕ)) → writeIn f words ≡ x → ((es : List Element) → AllHeld f es → words ≡ given wordsOf es → ⊥) → writeAnswer form words (length text) .number ≡ 10
-      back (accepted ss) q never = let w = written-run f (write-meets f words .runs ss .0 q .1) in absurd (never (w .elements) (w .all-held) (w .their-words))
+      back : (x : Outcome (List ℕ)) → writeIn f words ≡ x → ((es : List Element) → AllHeld f es → words ≡ given wordsOf es → ⊥)
+          → writeAnswer form words (length text) .number ≡ 10
+      back (accepted ss) q never =
+          let w = written-run f (write-meets f words .runs ss .0 q .1) in absurd (never (w .elements) (w .all-held) (w .their-words))
       back (refusal r n p d) q never =
           let h = write-meets f words .faults r n p d .0 q in
-          ap (λ (a : Answer). a .number) (write-exactly form words text _ _ .1 (Formed.of-form is-form (Answered.fault l h)) .0) ∙ h .here .0
+          ap (λ (a : Answer). a .number) (write-exactly form words text _ _ .1 (Formed.of-form is-form (Answered.fault l h)) .0)
+          ∙ h .here .0
 
 -- ======== Conversion
 
 module _ (f g : Form) where
   -- each piece respelt, and the pieces are the canonical spelling of what the text means
-  respelt-run : {text s : List ℕ} {ps qs : List (List ℕ)} {es : List Element} → Run (Spells f) text ps es → AllHeld g es → Run (CanonicalElement g) s qs es → Run (Respells f g) text ps qs × (given same qs ≡ s)
+  respelt-run : {text s : List ℕ} {ps qs : List (List ℕ)} {es : List Element} → Run (Spells f) text ps es → AllHeld g es
+      → Run (CanonicalElement g) s qs es → Run (Respells f g) text ps qs × (given same qs ≡ s)
   unfolding given
   respelt-run done none done = (done, refl)
   respelt-run (more sp r) (and h a) (more {p = q} c k) =
@@ -364,11 +436,15 @@ module _ (f g : Form) where
 
 module _ (source target : ℕ) (f g : Form) (is-source : formOf source ≡ Is f) (is-target : formOf target ≡ Is g) where
   -- What it writes is the target's canonical spelling of what the source text means, where the target holds that,
-  pub convert-accepted : (text s out : List ℕ) (es : List Element) → length text ≤ limit → RunOf (Spells f) text es → AllHeld g es → RunOf (CanonicalElement g) s es → length s ≤ length out
+  pub convert-accepted : (text s out : List ℕ) (es : List Element) → length text ≤ limit → RunOf (Spells f) text es → AllHeld g es
+      → RunOf (CanonicalElement g) s es → length s ≤ length out
       → (convertAnswer source target text (length out) ≡ answer 0 (length es) (length text) (length s)) × (convertText source target text out ≡ over out s)
   convert-accepted text s out es l r a c h =
       let w = respelt-run f g (r .1) a (c .1) in
-      let e = convert-exactly source target text out _ _ .1 (Formed.of-form is-source (Formed.of-form is-target (Answered.accepted l (r .0, w .0) (subst (λ (u : List ℕ). length u ≤ length out) (sym (w .1)) h)))) in
+      let e =
+      convert-exactly source target text out _ _ .1
+      (Formed.of-form is-source
+      (Formed.of-form is-target (Answered.accepted l (r .0, w .0) (subst (λ (u : List ℕ). length u ≤ length out) (sym (w .1)) h)))) in
       (e .0 ∙ ap₂ (λ (k : ℕ) (u : List ℕ). answer 0 k (length text) (length u)) (run-length (c .1)) (w .1), e .1 ∙ ap (over out) (w .1))
 
   -- and it writes nothing else; that spelling reads back in the target as that meaning.
@@ -382,7 +458,8 @@ module _ (source target : ℕ) (f g : Form) (is-source : formOf source ≡ Is f)
     pub room : length octets ≤ length out
     pub answers : convertAnswer source target text (length out) ≡ answer 0 (length meaning) (length text) (length octets)
     pub writes : convertText source target text out ≡ over out octets
-    pub back : (words : List ℕ) → length octets ≤ limit → length (given wordsOf meaning) ≤ length words → readWords target octets words ≡ over words (given wordsOf meaning)
+    pub back : (words : List ℕ) → length octets ≤ limit → length (given wordsOf meaning) ≤ length words
+        → readWords target octets words ≡ over words (given wordsOf meaning)
 
   pub converted-means : (text out : List ℕ) → convertAnswer source target text (length out) .number ≡ 0 → Converted text out
   converted-means text out e =
@@ -402,12 +479,20 @@ module _ (source target : ℕ) (f g : Form) (is-source : formOf source ≡ Is f)
       }
 
   -- It is refused with 10 exactly at the first element that the target does not hold, its place the octets of the elements before it.
-  pub convert-refused : (text out : List ℕ) (n p : ℕ) → length text ≤ limit → (convertAnswer source target text (length out) ≡ answer 10 n p 0) ↔ ((d : ℕ) × ConvertingFault f g text 10 n p d)
-  convert-refused text out n p l = (forth, λ h. convert-exactly source target text out _ _ .1 (Formed.of-form is-source (Formed.of-form is-target (Answered.fault l (h .1)))) .0)
+  pub convert-refused : (text out : List ℕ) (n p : ℕ) → length text ≤ limit
+      → (convertAnswer source target text (length out) ≡ answer 10 n p 0) ↔ ((d : ℕ) × ConvertingFault f g text 10 n p d)
+  convert-refused text out n p l = (
+    forth,
+    λ h. convert-exactly source target text out _ _ .1
+        (Formed.of-form is-source (Formed.of-form is-target (Answered.fault l (h .1)))) .0,
+  )
     where
       forth : convertAnswer source target text (length out) ≡ answer 10 n p 0 → (d : ℕ) × ConvertingFault f g text 10 n p d
       forth e =
-          let t = subst (λ (a : Answer). Tells same (RunOf (Respells f g) text) (ConvertingFault f g text) text out a (convertText source target text out)) e (convert-tells source target f g is-source is-target text out) .is-fault (omega arith) (omega arith) (λ z. omega arith) in
+          let t =
+          subst (λ (a : Answer). Tells same (RunOf (Respells f g) text) (ConvertingFault f g text) text out a
+          (convertText source target text out)) e (convert-tells source target f g is-source is-target text out) .is-fault (omega arith)
+          (omega arith) (λ z. omega arith) in
           (t .0, t .2)
 
 module _ (form : ℕ) (f : Form) (is-form : formOf form ≡ Is f) where
@@ -429,19 +514,30 @@ module _ (form : ℕ) (f : Form) (is-form : formOf form ≡ Is f) where
 
 module _ (form : ℕ) (f : Form) (is-form : formOf form ≡ Is f) (s t : List ℕ) (within : length (s ++ t) ≤ limit) (es : List Element) (first : RunOf (Spells f) s es) where
   -- Two accepted texts of one form, joined, are accepted and mean both meanings joined, with room enough lent.
-  pub joined-read : (words : List ℕ) (fs : List Element) → RunOf (Spells f) t fs → length (given wordsOf es ++ given wordsOf fs) ≤ length words
+  pub joined-read : (words : List ℕ) (fs : List Element) → RunOf (Spells f) t fs
+      → length (given wordsOf es ++ given wordsOf fs) ≤ length words
       → (readAnswer form (s ++ t) (length words) ≡ answer 0 (length (es ++ fs)) (length (s ++ t)) (length (given wordsOf es ++ given wordsOf fs))) × (readWords form (s ++ t) words ≡ over words (given wordsOf es ++ given wordsOf fs))
   joined-read words fs r h =
-      subst (λ (u : List ℕ). (readAnswer form (s ++ t) (length words) ≡ answer 0 (length (es ++ fs)) (length (s ++ t)) (length u)) × (readWords form (s ++ t) words ≡ over words u)) (given-append wordsOf es fs)
-      (read-accepted form f is-form (s ++ t) words (es ++ fs) within (run-append (first .1) (r .1)) (subst (λ (u : List ℕ). length u ≤ length words) (sym (given-append wordsOf es fs)) h))
+      subst (λ (u : List ℕ). (readAnswer form (s ++ t) (length words) ≡ answer 0 (length (es ++ fs)) (length (s ++ t)) (length u)) ×
+      (readWords form (s ++ t) words ≡ over words u)) (given-append wordsOf es fs)
+      (read-accepted form f is-form (s ++ t) words (es ++ fs) within (run-append (first .1) (r .1))
+      (subst (λ (u : List ℕ). length u ≤ length words) (sym (given-append wordsOf es fs)) h))
 
   -- If the first is accepted and the second refused, it is refused as by itself, element number, place and count moved up.
-  pub joined-refused : (words : List ℕ) (r n p c : ℕ) → 1 ≤ r → r ≤ 8 → readAnswer form t (length words) ≡ answer r n p c → readAnswer form (s ++ t) (length words) ≡ answer r (length es + n) (length s + p) (length s + c)
+  pub joined-refused : (words : List ℕ) (r n p c : ℕ) → 1 ≤ r → r ≤ 8 → readAnswer form t (length words) ≡ answer r n p c
+      → readAnswer form (s ++ t) (length words) ≡ answer r (length es + n) (length s + p) (length s + c)
   joined-refused words r n p c h k e =
-      let v = subst (λ (a : Answer). Tells wordsOf (RunOf (Spells f) t) (ReadingFault f t) t words a (readWords form t words)) e (read-tells form f is-form t words) .is-fault (omega arith) (omega arith) (λ z. omega arith) in
-      let q = outcomes.joined-refused (headIn f) (Spells f) (reads f) s t es r n p (v .0) (read-meets f s .runs es .1 first) (read-meets f t .faults r n p (v .0) .1 (v .2)) in
-      let a = read-exactly form (s ++ t) words _ _ .1 (Formed.of-form is-form (Answered.fault within (read-meets f (s ++ t) .faults _ _ _ _ .0 q))) in
-      a .0 ∙ ap (answer r (length es + n) (length s + p)) (sym (count-is-place r (length s + v .0) k) ∙ ap (λ (i : ℕ). length s + i) (sym (v .3 ∙ sym (count-is-place r (v .0) k))))
+      let v =
+      subst (λ (a : Answer). Tells wordsOf (RunOf (Spells f) t) (ReadingFault f t) t words a (readWords form t words)) e
+      (read-tells form f is-form t words) .is-fault (omega arith) (omega arith) (λ z. omega arith) in
+      let q =
+      outcomes.joined-refused (reads f) s t es r n p (v .0) (read-meets f s .runs es .1 first)
+      (read-meets f t .faults r n p (v .0) .1 (v .2)) in
+      let a =
+      read-exactly form (s ++ t) words _ _ .1
+      (Formed.of-form is-form (Answered.fault within (read-meets f (s ++ t) .faults _ _ _ _ .0 q))) in
+      a .0 ∙ ap (answer r (length es + n) (length s + p))
+      (sym (count-is-place r (length s + v .0) k) ∙ ap (λ (i : ℕ). length s + i) (sym (v .3 ∙ sym (count-is-place r (v .0) k))))
 
 module _ (source target : ℕ) (f g : Form) (is-source : formOf source ≡ Is f) (is-target : formOf target ≡ Is g) (s t : List ℕ) (within : length (s ++ t) ≤ limit) (es fs : List Element) (first : RunOf (Spells f) s es) (second : RunOf (Spells f) t fs) (all-held : AllHeld g es) (u : List ℕ) (spelling : RunOf (CanonicalElement g) u es) where
   held-append : {xs ys : List Element} → AllHeld g xs → AllHeld g ys → AllHeld g (xs ++ ys)
@@ -452,23 +548,31 @@ module _ (source target : ℕ) (f g : Form) (is-source : formOf source ≡ Is f)
   pub joined-converted : (v out : List ℕ) → AllHeld g fs → RunOf (CanonicalElement g) v fs → length (u ++ v) ≤ length out
       → (convertAnswer source target (s ++ t) (length out) ≡ answer 0 (length (es ++ fs)) (length (s ++ t)) (length (u ++ v))) × (convertText source target (s ++ t) out ≡ over out (u ++ v))
   joined-converted v out a c h =
-      convert-accepted source target f g is-source is-target (s ++ t) (u ++ v) out (es ++ fs) within (run-append (first .1) (second .1)) (held-append all-held a) (run-append (spelling .1) (c .1)) h
+      convert-accepted source target f g is-source is-target (s ++ t) (u ++ v) out (es ++ fs) within (run-append (first .1) (second .1))
+      (held-append all-held a) (run-append (spelling .1) (c .1)) h
 
   -- and where the target does not hold an element of the second, that is refused as by itself, element number and place moved up.
-  pub joined-not-held : (out : List ℕ) (n p : ℕ) → convertAnswer source target t (length out) ≡ answer 10 n p 0 → convertAnswer source target (s ++ t) (length out) ≡ answer 10 (length es + n) (length s + p) 0
+  pub joined-not-held : (out : List ℕ) (n p : ℕ) → convertAnswer source target t (length out) ≡ answer 10 n p 0
+      → convertAnswer source target (s ++ t) (length out) ≡ answer 10 (length es + n) (length s + p) 0
   joined-not-held out n p e =
-      let v = subst (λ (a : Answer). Tells same (RunOf (Respells f g) t) (ConvertingFault f g t) t out a (convertText source target t out)) e (convert-tells source target f g is-source is-target t out) .is-fault (omega arith) (omega arith) (λ z. omega arith) in
+      let v =
+      subst (λ (a : Answer). Tells same (RunOf (Respells f g) t) (ConvertingFault f g t) t out a (convertText source target t out)) e
+      (convert-tells source target f g is-source is-target t out) .is-fault (omega arith) (omega arith) (λ z. omega arith) in
       let w = respelt-run f g (first .1) all-held (spelling .1) in
-      let one = outcomes.accepts (respellHead f g) (Respells f g) (respell-reads f g) s (spelling .0) .1 (first .0, w .0) in
+      let one = outcomes.accepts (respell-reads f g) s (spelling .0) .1 (first .0, w .0) in
       let two = sym (read-converts f g t fs (read-meets f t .runs fs .1 second)) ∙ convert-meets f g t .faults 10 n p (v .0) .1 (v .2) in
-      let both = read-converts f g (s ++ t) (es ++ fs) (read-meets f (s ++ t) .runs (es ++ fs) .1 (run-append (first .1) (second .1))) ∙ outcomes.joined-refused (respellHead f g) (Respells f g) (respell-reads f g) s t (spelling .0) 10 n p (v .0) one two in
-      convert-exactly source target (s ++ t) out _ _ .1 (Formed.of-form is-source (Formed.of-form is-target (Answered.fault within (convert-meets f g (s ++ t) .faults _ _ _ _ .0 both)))) .0
+      let both =
+      read-converts f g (s ++ t) (es ++ fs) (read-meets f (s ++ t) .runs (es ++ fs) .1 (run-append (first .1) (second .1)))
+      ∙ outcomes.joined-refused (respell-reads f g) s t (spelling .0) 10 n p (v .0) one two in
+      convert-exactly source target (s ++ t) out _ _ .1
+      (Formed.of-form is-source (Formed.of-form is-target (Answered.fault within (convert-meets f g (s ++ t) .faults _ _ _ _ .0 both)))) .0
       ∙ ap (λ (k : ℕ). answer 10 (k + n) (length s + p) 0) (run-length (spelling .1))
 
 -- both forms are known, and the text is within the limit
 in-two-forms : (source target : ℕ) (f g : Form) → formOf source ≡ Is f → formOf target ≡ Is g → (text out : List ℕ) → length text ≤ limit
     → (convertAnswer source target text (length out) ≡ answerOf same (length text) (length out) (convertIn f g text)) × (convertText source target text out ≡ writtenOf same out (convertIn f g text))
-in-two-forms source target f g q p text out l = let e = converted source target text out f g _ _ q p l (refl, refl) in (sym (e .0), sym (e .1))
+in-two-forms source target f g q p text out l =
+    let e = converted source target f g q p text out l _ _ (refl, refl) in (sym (e .0), sym (e .1))
 
 -- two conversions give the same number, element and count, and put the same octets
 pub record Same (a b : Answer) (after after′ : List ℕ) : Type 0 where
@@ -477,10 +581,12 @@ pub record Same (a b : Answer) (after after′ : List ℕ) : Type 0 where
   pub count : a .count ≡ b .count
   pub octets : after ≡ after′
 
-alike-answers : (n m : ℕ) (l : List ℕ) (x y : Outcome (List ℕ)) → Alike x y → Same (answerOf same n (length l) x) (answerOf same m (length l) y) (writtenOf same l x) (writtenOf same l y)
+alike-answers : (n m : ℕ) (l : List ℕ) (x y : Outcome (List ℕ)) → Alike x y
+    → Same (answerOf same n (length l) x) (answerOf same m (length l) y) (writtenOf same l x) (writtenOf same l y)
 alike-answers n m l (accepted ss) y a = rw a (go (leb (length (given same ss)) (length l)))
   where
-    go : (t : Bool) → Same (pick t (answer 0 (length ss) n (length (given same ss))) (answer 9 0 0 (length (given same ss)))) (pick t (answer 0 (length ss) m (length (given same ss))) (answer 9 0 0 (length (given same ss)))) (writtenOf same l (accepted ss)) (writtenOf same l (accepted ss))
+    go : (t : Bool)
+        → Same (pick t (answer 0 (length ss) n (length (given same ss))) (shortRoom (length (given same ss)))) (pick t (answer 0 (length ss) m (length (given same ss))) (shortRoom (length (given same ss)))) (writtenOf same l (accepted ss)) (writtenOf same l (accepted ss))
     go true = record { number = refl; element = refl; count = refl; octets = refl }
     go false = record { number = refl; element = refl; count = refl; octets = refl }
 alike-answers n m l (refusal r e p d) (accepted ss) a = absurd a
@@ -495,28 +601,15 @@ pub composes : (source second third : ℕ) (f g h : Form) → formOf source ≡ 
 composes source second third f g h is-source is-second is-third text s out es l k r c =
     let a = in-two-forms source third f h is-source is-third text out l in
     let b = in-two-forms second third g h is-second is-third s out k in
-    let alike : Alike (convertIn f h text) (convertIn g h s) = rw (read-converts f h text es (read-meets f text .runs es .1 r), read-converts g h s es (read-meets g s .runs es .1 (c .0, canonical-run g (c .1)))) (respelt-alike f g h (r .1) (canonical-run g (c .1))) in
+    let alike : Alike (convertIn f h text) (convertIn g h s) =
+    rw (
+      read-converts f h text es (read-meets f text .runs es .1 r),
+      read-converts g h s es
+          (read-meets g s .runs es .1 (c .0, canonical-run g (c .1))),
+    ) (respelt-alike f g h (r .1) (canonical-run g (c .1))) in
     rw (a .0, a .1, b .0, b .1) (alike-answers (length text) (length s) out (convertIn f h text) (convertIn g h s) alike)
 
 -- ======== "Sixteen readings to prove": all of them and only these, as one table under one claim, by computation
 
 pub sixteen-readings : All readings
 sixteen-readings = sixteen
-
--- ======== For the crates above: what a text comes to, and how it is answered
-
-module _ (f : Form) where
-  pub accepted-exactly : (text : List ℕ) (es : List Element) → (readIn f text ≡ accepted es) ↔ RunOf (Spells f) text es
-  accepted-exactly text = read-meets f text .runs
-
-  pub refused-exactly : (text : List ℕ) (r n p d : ℕ) → (readIn f text ≡ refusal r n p d) ↔ ReadingFault f text r n p d
-  refused-exactly text = read-meets f text .faults
-
-  pub joined : (s t : List ℕ) (es : List Element) → readIn f s ≡ accepted es → readIn f (s ++ t) ≡ join es (length s) (readIn f t)
-  joined = outcomes.joined (headIn f) (Spells f) (reads f)
-
-  -- a form's number, and a text within the limit
-  pub read-answers : (form : ℕ) → formOf form ≡ Is f → (text : List ℕ) → length text ≤ limit → (words : List ℕ)
-      → (readAnswer form text (length words) ≡ answerOf wordsOf (length text) (length words) (readIn f text)) × (readWords form text words ≡ writtenOf wordsOf words (readIn f text))
-  unfolding readAnswer readWords
-  read-answers form q text l words = (sym (a-form _ _ _ _ _ q (fitting text _ _ l)), sym (a-form _ _ _ _ _ q (fitting text _ _ l)))

@@ -1,13 +1,6 @@
-mod Passed
-mod Heads
-mod Loops
-mod Lent
-mod Writes
-mod Rooms
-mod Edges
-mod Tables
+mod SpeltSizes
+mod Respelling
+mod Places
 mod Converting
-mod Measures
-mod Lone
 pub mod Readings
 pub mod Demands

@@ -6,18 +6,19 @@ use mathlib.Core.List.{List, [], _∷_}
 use lib.ListN.{length}
 use Rattle.run.specs.Head.{from, outcome}
 use Rattle.run.specs.Answers.{answer, given}
-use Rattle.alphabet.specs.Tables.{primary, primary-3, supplementary, supplementary-3, grave, acute, circumflex, tilde, macron, breve, dot-above, diaeresis, ring, cedilla, double-acute, ogonek, caron, letters, accents, rows}
-use Rattle.alphabet.specs.Forms.{form1, form2, form3, alphabetOf}
-use Rattle.alphabet.specs.Squares.{squareOf, squares, pairOf}
-use Rattle.alphabet.specs.Sorts.{sortIn, shiftedIn}
-use Rattle.alphabet.specs.Spelling.{spellIn}
-use Rattle.sequence.specs.Kinds.{kindOf}
-use Rattle.sequence.specs.Reading.{digitStep, valueStep, middleStep, stepOf, scan, sequenceHead}
-use Rattle.sequence.specs.Spelling.{digitsOf, spellRest, spellValues, spellMiddle, spellSequence, isFine}
-use Rattle.element.specs.Reading.{followerHead, shiftedHead, underlinedHead, headIn}
-use Rattle.element.specs.Spelling.{spellElement}
-use Rattle.text.specs.Outcomes.{respellHead, convertIn}
-use Rattle.text.specs.Answers.{readAnswer, readWords, convertAnswer, convertText}
+use Rattle.sorts.specs.Tables.{primary, primary-3, supplementary, supplementary-3, grave, acute, circumflex, tilde, macron, breve, dot-above, diaeresis, ring, cedilla, double-acute, ogonek, caron, letters, accents, rows}
+use Rattle.sorts.specs.Forms.{form1, form2, form3, alphabetOf}
+use Rattle.squares.specs.Squares.{squareOf, squares, pairOf}
+use Rattle.sorts.specs.Sorts.{sortIn, shiftedIn}
+use Rattle.spelling.specs.SpellingGiven.{spellIn}
+use Rattle.sequence_reading.specs.Kinds.{kindOf}
+use Rattle.sequence_reading.specs.Reading.{digitStep, valueStep, middleStep, stepOf, scan, sequenceHead}
+use Rattle.sequence_spelling.specs.SequenceOctets.{digitsOf, spellRest, spellValues, spellMiddle, spellSequence, isFine}
+use Rattle.element_reading.specs.Reading.{followerHead, shiftedHead, underlinedHead, headIn}
+use Rattle.element_spelling.specs.ElementOctets.{spellElement}
+use Rattle.text_reading.specs.Answers.{readAnswer, readWords}
+use Rattle.text.specs.Outcomes.{convertIn}
+use Rattle.text.specs.Answers.{convertAnswer, convertText}
 
 -- what the table's third column says
 pub data Result : Type 0 where
@@ -85,7 +86,7 @@ All [] = Unit {0}
 All (line form octets result added ∷ more) = (Reads form octets result × Converts form octets added) × All more
 
 pub sixteen : All readings
-unfolding from outcome given primary primary-3 supplementary supplementary-3 grave acute circumflex tilde macron breve dot-above diaeresis ring cedilla double-acute ogonek caron letters accents rows form1 form2 form3 alphabetOf squareOf squares pairOf sortIn shiftedIn spellIn kindOf digitStep valueStep middleStep stepOf scan sequenceHead digitsOf spellRest spellValues spellMiddle spellSequence isFine followerHead shiftedHead underlinedHead headIn spellElement respellHead convertIn readAnswer readWords convertAnswer convertText
+unfolding from outcome given primary primary-3 supplementary supplementary-3 grave acute circumflex tilde macron breve dot-above diaeresis ring cedilla double-acute ogonek caron letters accents rows form1 form2 form3 alphabetOf squareOf squares pairOf sortIn shiftedIn spellIn kindOf digitStep valueStep middleStep stepOf scan sequenceHead digitsOf spellRest spellValues spellMiddle spellSequence isFine followerHead shiftedHead underlinedHead headIn spellElement convertIn readAnswer readWords convertAnswer convertText
 sixteen = (
   ((refl, refl), tt),
   (

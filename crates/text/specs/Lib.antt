@@ -1,4 +1,3 @@
 pub mod Outcomes
 pub mod Answers
 pub mod Table
-pub mod Lent

@@ -4,57 +4,60 @@ use Prim.Native.Nat.{ℕ, suc, _+_, _≤_, _<_}
 use mathlib.Core.Path.{_≡_, refl, sym, ap, ap₂, subst, subst₂, _∙_}
 use mathlib.Core.Logic.{_↔_}
 use mathlib.Core.List.{List, [], _∷_, _++_}
+use mathlib.Core.Bool.{Bool, true, false}
 use native.Mathlib.Nat.{add-zero}
 use native.Mathlib.Omega.{arith}
-use lib.ListN.{length, getD, length-append}
-use borrow.Author.Tests.{le-leb, lt-leb, lt-ltb, le-ltb, leb-true, leb-false}
-use mathlib.Core.Bool.{Bool, true, false}
 use lib.Dec.{leb, lit<}
-use Rattle.element.proofs.Places.{reading-number}
-use Rattle.tlx.specs.declared.CaseAnswer.{CaseAnswer}
+use lib.ListN.{length, getD, length-append, List·getD-map}
+use borrow.Author.Tests.{le-leb, lt-leb, lt-ltb, le-ltb, leb-true, leb-false}
 use Rattle.run.specs.Choice.{pick}
 use Rattle.run.specs.Head.{Outcome, accepted, refusal}
 use Rattle.run.specs.Grammar.{RunOf}
-use Rattle.run.specs.Answers.{answer, bare, given, writtenOf, over}
+use Rattle.run.specs.Answers.{answer, bare, shortRoom, given, writtenOf, over}
 use Rattle.run.proofs.Answers as answers
-use Rattle.alphabet.specs.declared.Form.{Form}
-use Rattle.alphabet.specs.declared.FormFound.the-variants.{Is}
-use Rattle.alphabet.specs.Forms.{formOf}
-use Rattle.element.specs.declared.Element.{Element}
-use Rattle.element.specs.Words.{wordsOf}
-use Rattle.element.specs.Grammar.{Spells}
-use Rattle.text.specs.Outcomes.{readIn}
-use Rattle.text.specs.Answers.{measureAnswer}
-use Rattle.text.proofs.Demands as text
-use Rattle.tlx.specs.declared.Header.{Header}
-use Rattle.tlx.specs.declared.Header.the-variants.{Refused, Pages}
+use Rattle.sorts.specs.declared.Form.{Form}
+use Rattle.sorts.specs.declared.FormFound.the-variants.{Is}
+use Rattle.sorts.specs.Forms.{formOf}
+use Rattle.element_words.specs.declared.Element.{Element}
+use Rattle.element_words.specs.Words.{wordsOf}
+use Rattle.element_reading.specs.Grammar.{Spells}
+use Rattle.element_reading.proofs.Places.{reading-number}
+use Rattle.text_reading.specs.Answers.{readIn, readAnswer}
+use Rattle.text_reading.proofs.Reading as text
+use Rattle.case_table.specs.declared.Header.{Header}
+use Rattle.case_table.specs.declared.Header.the-variants.{Refused, Pages}
+use Rattle.case_table.specs.Layout.{Layout, header, big16, ofForm}
+use Rattle.case_table.specs.Check.{headerOf}
+use Rattle.case_table.specs.Grammar.{Octets, CaseOf, TurnedBy, Turned}
+use Rattle.case_table.proofs.Checked.{turned-exactly}
+use Rattle.case_table.proofs.Laid.{laid-exactly, case-header, case-pages}
+use Rattle.tlx.specs.declared.CaseAnswer.{CaseAnswer}
 use Rattle.tlx.specs.declared.Page.the-variants.{Is as IsPage, NoPage}
-use Rattle.tlx.specs.Layout.{header, big16}
-use Rattle.tlx.specs.Check.{headerOf}
-use Rattle.tlx.specs.Grammar.{Octets, CaseOf, Turned, AllSpelt, none, more}
-use Rattle.tlx.specs.Table.{Faulty, AcceptedCase, RefusedCase, of-case, of-page, CaseTable, CaseTells}
-use Rattle.tlx.specs.Reading.{CaseOutcome, all, fault, joinPages, afterPage, readPages, readCase, beside, readCaseAnswer, readCaseWords, pageAnswer, outcomeOf, caseAnswer}
-use Rattle.tlx.proofs.Pages.{join-none, join-join}
-use Rattle.tlx.proofs.Checked.{is-found, turned-exactly}
-use Rattle.tlx.proofs.Laid.{laid-exactly, case-header, case-pages}
+use Rattle.tlx.specs.Table.{AllSpelt, none, more, Faulty, AcceptedCase, RefusedCase, of-case, of-page, CaseTable, CaseTells}
+use Rattle.tlx.specs.Reading.{CaseOutcome, all, fault, joinPages, afterPage, readPage, readPages, readCase, beside, readCaseAnswer, readCaseWords, aloneAnswer, pageAnswer, outcomeOf, caseAnswer}
+use Rattle.tlx.proofs.Pages.{join-none, join-join, page-read}
 use Rattle.tlx.proofs.Rooms.{case-turned}
+use Rattle.sorts.proofs.FormNumbers.{is-found}
 
-module _ (f : Form) where
+module _ (form : ℕ) (f : Form) (is-form : formOf form ≡ Is f) where
+  accepts : (page : List ℕ) (es : List Element) → RunOf (Spells f) page es → readPage (form, page) ≡ accepted es
+  accepts page es r = page-read form is-form page ∙ text.accepted-exactly f page es .1 r
+
   -- ---- pages, one after another
 
   -- After accepted pages the others are read as by themselves: elements joined, or the page's number moved up.
-  pub joined : {pages : List (List ℕ)} {es : List Element} → AllSpelt f pages es → (others : List (List ℕ)) → readPages f (pages ++ others) ≡ joinPages es (length pages) (readPages f others)
+  pub joined : {pages : List (List ℕ)} {es : List Element} → AllSpelt f pages es → (others : List (List ℕ)) → readPages (ofForm form (pages ++ others)) ≡ joinPages es (length pages) (readPages (ofForm form others))
   unfolding readPages
-  joined none others = sym (join-none (readPages f others))
+  joined none others = sym (join-none (readPages (ofForm form others)))
   joined (more {page} {pages} {es} {fs} r s) others =
-      ap₂ afterPage (text.accepted-exactly f page es .1 r) (joined s others)
-      ∙ join-join es fs 1 (length pages) (readPages f others)
-      ∙ ap (λ (k : ℕ). joinPages (es ++ fs) k (readPages f others)) (let e : 1 + length pages ≡ suc (length pages) = omega arith in e)
+      ap₂ afterPage (accepts page es r) (joined s others)
+      ∙ join-join es fs 1 (length pages) (readPages (ofForm form others))
+      ∙ ap (λ (k : ℕ). joinPages (es ++ fs) k (readPages (ofForm form others))) (let e : 1 + length pages ≡ suc (length pages) = omega arith in e)
 
-  pub spelt-accepted : {pages : List (List ℕ)} {es : List Element} → AllSpelt f pages es → readPages f pages ≡ all es
+  pub spelt-accepted : {pages : List (List ℕ)} {es : List Element} → AllSpelt f pages es → readPages (ofForm form pages) ≡ all es
   unfolding readPages
   spelt-accepted none = refl
-  spelt-accepted (more {page} {pages} {es} {fs} r s) = ap₂ afterPage (text.accepted-exactly f page es .1 r) (spelt-accepted s)
+  spelt-accepted (more {page} {pages} {es} {fs} r s) = ap₂ afterPage (accepts page es r) (spelt-accepted s)
 
   -- how pages come to their outcome
   data Went : List (List ℕ) → CaseOutcome → Type 0 where
@@ -76,7 +79,7 @@ module _ (f : Form) where
         named = omega (arith, i .named);
       })
 
-  went-by : (page : List ℕ) (pages : List (List ℕ)) → Went pages (readPages f pages) → (x : Outcome Element) → readIn f page ≡ x → Went (page ∷ pages) (afterPage x (readPages f pages))
+  went-by : (page : List ℕ) (pages : List (List ℕ)) → Went pages (readPages (ofForm form pages)) → (x : Outcome Element) → readIn f page ≡ x → Went (page ∷ pages) (afterPage x (readPages (ofForm form pages)))
   went-by page pages w (accepted es) q = went-more page pages es (text.accepted-exactly f page es .0 q) w
   went-by page pages w (refusal r n p d) q =
       ill {g = 0}
@@ -87,14 +90,15 @@ module _ (f : Form) where
         elements = [];
         whole = refl;
         spelt = none;
-        refused = text.refused-exactly f page r n p d .0 q;
+        refused = text.read-meets f page .faults r n p d .0 q;
         named = refl;
       })
 
-  went : (pages : List (List ℕ)) → Went pages (readPages f pages)
+  went : (pages : List (List ℕ)) → Went pages (readPages (ofForm form pages))
   unfolding readPages
   went [] = well none
-  went (page ∷ pages) = went-by page pages (went pages) (readIn f page) refl
+  went (page ∷ pages) =
+      subst (λ (x : Outcome Element). Went (page ∷ pages) (afterPage x (readPages (ofForm form pages)))) (sym (page-read form is-form page)) (went-by page pages (went pages) (readIn f page) refl)
 
   went-well : {pages : List (List ℕ)} {x : CaseOutcome} → Went pages x → (es : List Element) → x ≡ all es → AllSpelt f pages es
   went-well {pages} (well {es = es₀} s) es q = let e : es₀ ≡ es = cc in subst (AllSpelt f pages) e s
@@ -111,36 +115,36 @@ module _ (f : Form) where
       rw (eg, er, en, ep, ed) at i
 
   -- Pages are accepted exactly when each is a run of elements, and their elements are those of each page, joined.
-  pub pages-accepted : (pages : List (List ℕ)) (es : List Element) → (readPages f pages ≡ all es) ↔ AllSpelt f pages es
+  pub pages-accepted : (pages : List (List ℕ)) (es : List Element) → (readPages (ofForm form pages) ≡ all es) ↔ AllSpelt f pages es
   pages-accepted pages es = (went-well (went pages) es, spelt-accepted)
 
-  faulty-fault : {pages : List (List ℕ)} {g r n p d : ℕ} → Faulty f pages g r n p d → readPages f pages ≡ fault g r n p d
+  faulty-fault : {pages : List (List ℕ)} {g r n p d : ℕ} → Faulty f pages g r n p d → readPages (ofForm form pages) ≡ fault g r n p d
   unfolding readPages
   faulty-fault {pages} {g} {r} {n} {p} {d} i =
-      ap (readPages f) (i .whole)
+      ap (λ (l : List (List ℕ)). readPages (ofForm form l)) (i .whole)
       ∙ joined (i .spelt) (i .page ∷ i .behind)
-      ∙ ap (λ (x : Outcome Element). joinPages (i .elements) (length (i .before)) (afterPage x (readPages f (i .behind)))) (text.refused-exactly f (i .page) r n p d .1 (i .refused))
+      ∙ ap (λ (x : Outcome Element). joinPages (i .elements) (length (i .before)) (afterPage x (readPages (ofForm form (i .behind))))) (page-read form is-form (i .page) ∙ text.read-meets f (i .page) .faults r n p d .1 (i .refused))
       ∙ ap (λ (k : ℕ). fault k r n p d) (add-zero (length (i .before)) ∙ sym (i .named))
 
   -- They are refused exactly when one of them is, which is named, and the pages before it are accepted.
-  pub pages-refused : (pages : List (List ℕ)) (g r n p d : ℕ) → (readPages f pages ≡ fault g r n p d) ↔ Faulty f pages g r n p d
+  pub pages-refused : (pages : List (List ℕ)) (g r n p d : ℕ) → (readPages (ofForm form pages) ≡ fault g r n p d) ↔ Faulty f pages g r n p d
   pages-refused pages g r n p d = (went-ill (went pages) g r n p d, faulty-fault)
 
 -- ---- a whole case
 
 -- "Every page is read by itself": the case of pages comes to what its pages come to, each read from its octets alone
-pub read-laid : (case : List ℕ) (form : ℕ) (f : Form) (pages : List (List ℕ)) → formOf form ≡ Is f → CaseOf case form pages → readCase case ≡ readPages f pages
+pub read-laid : (case : List ℕ) (form : ℕ) (f : Form) (pages : List (List ℕ)) → formOf form ≡ Is f → CaseOf case form pages → readCase case ≡ readPages (ofForm form pages)
 unfolding readCase
-read-laid case form f pages q c = simp (case-header case form pages c, q) (ap (readPages f) (case-pages case form pages c))
+read-laid case form f pages q c = simp (case-header case form pages c) (ap readPages (case-pages case form pages c))
 
 -- the case of pages that are runs of elements is accepted
 accepted-read : {case : List ℕ} {es : List Element} → AcceptedCase case es → readCase case ≡ all es
 accepted-read {case} {es} a =
-    read-laid case (a .form) (a .the-form) (a .pages) (a .is-form) (a .laid) ∙ pages-accepted (a .the-form) (a .pages) es .1 (a .spelt)
+    read-laid case (a .form) (a .the-form) (a .pages) (a .is-form) (a .laid) ∙ pages-accepted (a .form) (a .the-form) (a .is-form) (a .pages) es .1 (a .spelt)
 
 refused-read : {case : List ℕ} {g r n p d : ℕ} → RefusedCase case g r n p d → readCase case ≡ fault g r n p d
 refused-read {case} (of-case {r} t) = case-turned case r (turned-exactly case r .1 t)
-refused-read {case} (of-page {form} {f} {pages} {g} {r} {n} {p} {d} q c i) = read-laid case form f pages q c ∙ pages-refused f pages g r n p d .1 i
+refused-read {case} (of-page {form} {f} {pages} {g} {r} {n} {p} {d} q c i) = read-laid case form f pages q c ∙ pages-refused form f q pages g r n p d .1 i
 
 module _ (case : List ℕ) (octets : Octets case) where
   accepted-by : (es : List Element) → readCase case ≡ all es → (h : Header) → headerOf case ≡ h → AcceptedCase case es
@@ -154,7 +158,7 @@ module _ (case : List ℕ) (octets : Octets case) where
         is-form = f .1;
         pages = l .0;
         laid = l .2;
-        spelt = pages-accepted (f .0) (l .0) es .0 (sym (read-laid case form (f .0) (l .0) (f .1) (l .2)) ∙ q);
+        spelt = pages-accepted form (f .0) (f .1) (l .0) es .0 (sym (read-laid case form (f .0) (l .0) (f .1) (l .2)) ∙ q);
       }
 
   -- A case is accepted exactly when it has the layout with every page accepted, and its elements are its pages' joined.
@@ -176,7 +180,7 @@ module _ (case : List ℕ) (octets : Octets case) where
   refused-by g r n p d q (Pages form k) e =
       let l = laid-exactly case octets form k .0 e in
       let f = is-found form (l .2 .is-form) in
-      of-page (f .1) (l .2) (pages-refused (f .0) (l .0) g r n p d .0 (sym (read-laid case form (f .0) (l .0) (f .1) (l .2)) ∙ q))
+      of-page (f .1) (l .2) (pages-refused form (f .0) (f .1) (l .0) g r n p d .0 (sym (read-laid case form (f .0) (l .0) (f .1) (l .2)) ∙ q))
 
   -- A case is refused exactly by 01's table: 13, 14, 11, 15 by itself, with page 0 and no place; else at the first page that is refused, which
   -- is named, element and places counted from that page's start.
@@ -197,7 +201,7 @@ module _ {case words : List ℕ} where
 
 module _ (case : List ℕ) (octets : Octets case) (words : List ℕ) where
   by-room : (es : List Element) → AcceptedCase case es → (t : Bool) → leb (length (given wordsOf es)) (length words) ≡ t
-      → CaseTable case words (beside 0 (pick t (answer 0 (length es) (length case) (length (given wordsOf es))) (answer 9 0 0 (length (given wordsOf es))))) (pick t (over words (given wordsOf es)) words)
+      → CaseTable case words (beside 0 (pick t (answer 0 (length es) (length case) (length (given wordsOf es))) (shortRoom (length (given wordsOf es))))) (pick t (over words (given wordsOf es)) words)
   by-room es a true e = CaseTable.accepted a (leb-true _ _ e)
   by-room es a false e = CaseTable.short-room a (leb-false _ _ e)
 
@@ -212,13 +216,13 @@ module _ (case : List ℕ) (octets : Octets case) (words : List ℕ) where
 
 -- ---- the number tells the row
 
-turned-number : {case : List ℕ} {r : ℕ} → Turned case r → (10 < r) × (r ≡ 12 → ⊥)
-turned-number (Turned.under-8 h) = (lit< tt, λ e. omega arith)
-turned-number (Turned.wrong-mark h n) = (lit< tt, λ e. omega arith)
-turned-number (Turned.other-version w n) = (lit< tt, λ e. omega arith)
-turned-number (Turned.no-form w n) = (lit< tt, λ e. omega arith)
-turned-number (Turned.over-256 w h) = (lit< tt, λ e. omega arith)
-turned-number (Turned.wrong-size w h n) = (lit< tt, λ e. omega arith)
+turned-number : {layout : Layout} {header table : List ℕ} {size r : ℕ} → TurnedBy layout header table size r → (10 < r) × (r ≡ 12 → ⊥)
+turned-number (TurnedBy.under-8 h) = (lit< tt, λ e. omega arith)
+turned-number (TurnedBy.wrong-mark h n) = (lit< tt, λ e. omega arith)
+turned-number (TurnedBy.other-version w n) = (lit< tt, λ e. omega arith)
+turned-number (TurnedBy.no-form w n) = (lit< tt, λ e. omega arith)
+turned-number (TurnedBy.over-256 w h) = (lit< tt, λ e. omega arith)
+turned-number (TurnedBy.wrong-size w h n) = (lit< tt, λ e. omega arith)
 
 refused-number : {case : List ℕ} {g r n p d : ℕ} → RefusedCase case g r n p d → (0 < r) × (r ≡ 9 → ⊥) × (r ≡ 10 → ⊥) × (r ≡ 12 → ⊥)
 refused-number (of-case t) =
@@ -263,7 +267,7 @@ read-case-tells case octets words = row-tells (read-case-exactly case octets wor
 -- ---- of any case: what is not written
 
 -- "A refusal writes nothing to any buffer."
-pub refusal-keeps : (case words : List ℕ) → (readCaseAnswer case (length words) .number ≡ 0 → ⊥) → readCaseWords case words ≡ words
+pub refusal-keeps : (case words : List ℕ) → (readCaseAnswer case (length words) .answer .number ≡ 0 → ⊥) → readCaseWords case words ≡ words
 unfolding readCaseAnswer readCaseWords
 refusal-keeps case words h = answers.refusal-keeps wordsOf (length case) words (outcomeOf (readCase case)) h
 
@@ -273,7 +277,7 @@ unfolding readCaseWords
 words-length case words = answers.written-length wordsOf (length case) words (outcomeOf (readCase case))
 
 -- "Entries past the count stay."
-pub past-count : (case words : List ℕ) (k d : ℕ) → readCaseAnswer case (length words) .count ≤ k → getD (readCaseWords case words) k d ≡ getD words k d
+pub past-count : (case words : List ℕ) (k d : ℕ) → readCaseAnswer case (length words) .answer .count ≤ k → getD (readCaseWords case words) k d ≡ getD words k d
 unfolding readCaseAnswer readCaseWords
 past-count case words k d h = answers.past-count wordsOf (length case) words (outcomeOf (readCase case)) k d h
 
@@ -292,11 +296,13 @@ words-joined f (more {page} {pages} {es} {fs} r s) =
 
 -- ---- one page
 
--- Each page's answer is that of its octets, read as a text.
-pub page-answers : (case : List ℕ) (form : ℕ) (pages : List (List ℕ)) → CaseOf case form pages → (k : ℕ) → k < length pages → pageAnswer case k ≡ IsPage (measureAnswer form (getD pages k []))
+-- Each page's answer is that of its octets, read as a text with room enough.
+pub page-answers : (case : List ℕ) (form : ℕ) (pages : List (List ℕ)) → CaseOf case form pages → (k : ℕ) → k < length pages → pageAnswer case k ≡ IsPage (readAnswer form (getD pages k []) (length (getD pages k [])))
 unfolding pageAnswer
 page-answers case form pages c k h =
-    simp (case-header case form pages c, lt-ltb k (length pages) h) (ap (λ (l : List (List ℕ)). IsPage (measureAnswer form (getD l k []))) (case-pages case form pages c))
+    simp (case-header case form pages c, lt-ltb k (length pages) h)
+    (ap (λ (l : List (ℕ × List ℕ)). IsPage (aloneAnswer (getD l k (form, [])))) (case-pages case form pages c)
+    ∙ ap (λ (page : ℕ × List ℕ). IsPage (aloneAnswer page)) (List·getD-map (λ (page : List ℕ). (form, page)) pages k []))
 
 pub no-page-answers : (case : List ℕ) (form : ℕ) (pages : List (List ℕ)) → CaseOf case form pages → (k : ℕ) → length pages ≤ k → pageAnswer case k ≡ NoPage
 unfolding pageAnswer
@@ -314,7 +320,7 @@ words-fit none = omega arith
 words-fit (more {page} {pages} {es} {fs} r s) =
     omega (arith, words-fit s, text.words-fit (r .1), ap length (answers.given-append wordsOf es fs), length-append (given wordsOf es) (given wordsOf fs), length-append page (given (λ (page : List ℕ). page) pages))
 
-pub room-enough : (case : List ℕ) → Octets case → (words : List ℕ) → length case ≤ length words → readCaseAnswer case (length words) .number ≡ 9 → ⊥
+pub room-enough : (case : List ℕ) → Octets case → (words : List ℕ) → length case ≤ length words → readCaseAnswer case (length words) .answer .number ≡ 9 → ⊥
 room-enough case octets words h e =
     let t = read-case-tells case octets words .is-9 e in
     let a = t .1 in

@@ -9,21 +9,20 @@ use lib.ListN.{length, getD, length-append, List·getD-append}
 use lib.Seq.{getD-at}
 use Rattle.run.specs.Head.{Outcome, accepted, refusal}
 use Rattle.run.specs.Grammar.{RunOf}
-use Rattle.run.specs.Answers.{answer, countOf, given}
-use Rattle.alphabet.specs.declared.Form.{Form}
-use Rattle.alphabet.specs.declared.FormFound.the-variants.{Is}
-use Rattle.alphabet.specs.Forms.{formOf}
-use Rattle.element.specs.declared.Element.{Element}
-use Rattle.element.specs.Words.{wordsOf}
-use Rattle.element.specs.Grammar.{Spells}
-use Rattle.text.specs.Outcomes.{readIn}
-use Rattle.text.specs.Answers.{measured}
-use Rattle.text.proofs.Demands as text
+use Rattle.run.specs.Answers.{answer, countOf, given, roomyAnswer}
+use Rattle.sorts.specs.declared.Form.{Form}
+use Rattle.sorts.specs.declared.FormFound.the-variants.{Is}
+use Rattle.sorts.specs.Forms.{formOf}
+use Rattle.element_words.specs.declared.Element.{Element}
+use Rattle.element_words.specs.Words.{wordsOf}
+use Rattle.element_reading.specs.Grammar.{Spells}
+use Rattle.text_reading.specs.Answers.{readIn}
+use Rattle.text_reading.proofs.Reading as text
+use Rattle.case_table.specs.Grammar.{CaseOf}
 use Rattle.tlx.specs.declared.Page.the-variants.{Is as IsPage}
-use Rattle.tlx.specs.Grammar.{CaseOf, AllSpelt, none, more}
 use Rattle.tlx.specs.Reading.{all, joinPages, readCase, pageAnswer, pageValues}
-use Rattle.tlx.proofs.Pages.{page-measured}
-use Rattle.tlx.specs.Table.{Faulty}
+use Rattle.tlx.specs.Table.{AllSpelt, none, more, Faulty}
+use Rattle.tlx.proofs.Pages.{alone-is}
 use Rattle.tlx.proofs.Cases.{joined, pages-accepted, read-laid, page-answers}
 
 -- After a case that is accepted, the pages of another are read in one case with its own as in theirs: elements joined, or the page's number
@@ -31,9 +30,9 @@ use Rattle.tlx.proofs.Cases.{joined, pages-accepted, read-laid, page-an
 pub joined-cases : (form : ℕ) (f : Form) → formOf form ≡ Is f → (case next both : List ℕ) (pages others : List (List ℕ)) → CaseOf case form pages → CaseOf next form others → CaseOf both form (pages ++ others)
     → (es : List Element) → readCase case ≡ all es → readCase both ≡ joinPages es (length pages) (readCase next)
 joined-cases form f q case next both pages others a b c es e =
-    let s = pages-accepted f pages es .0 (sym (read-laid case form f pages q a) ∙ e) in
+    let s = pages-accepted form f q pages es .0 (sym (read-laid case form f pages q a) ∙ e) in
     read-laid both form f (pages ++ others) q c
-    ∙ joined f s others
+    ∙ joined form f q s others
     ∙ ap (joinPages es (length pages)) (sym (read-laid next form f others q b))
 
 -- each of the pages is a run of elements
@@ -57,19 +56,19 @@ member-at (page ∷ pages) (suc k) h = List·Memᴰ·tail (member-at pages k (le
 
 module _ (case : List ℕ) (form : ℕ) (f : Form) (is-form : formOf form ≡ Is f) (pages : List (List ℕ)) (laid : CaseOf case form pages) where
   -- A page of a case is within the limit, so it is answered by its reading alone, as a text of its octets: 12 is not asked.
-  pub page-read : (k : ℕ) → k < length pages → pageAnswer case k ≡ IsPage (measured wordsOf (length (getD pages k [])) (readIn f (getD pages k [])))
+  pub page-read : (k : ℕ) → k < length pages → pageAnswer case k ≡ IsPage (roomyAnswer wordsOf (length (getD pages k [])) (readIn f (getD pages k [])))
   page-read k h =
       let s = laid .short (getD pages k []) (member-at pages k h) in
-      page-answers case form pages laid k h ∙ ap IsPage (page-measured form f (getD pages k []) is-form (omega (arith, s)))
+      page-answers case form pages laid k h ∙ ap IsPage (alone-is form is-form (getD pages k []) (omega (arith, s)))
 
   -- the four numbers of a page's answer
-  pub page-numbers : (k : ℕ) → k < length pages → pageValues (pageAnswer case k) ≡ measured wordsOf (length (getD pages k [])) (readIn f (getD pages k []))
+  pub page-numbers : (k : ℕ) → k < length pages → pageValues (pageAnswer case k) ≡ roomyAnswer wordsOf (length (getD pages k [])) (readIn f (getD pages k []))
   page-numbers k h = ap pageValues (page-read k h)
 
   -- a page that is a run of elements: 0, its elements, its length, its words
   pub page-accepted : (k : ℕ) → k < length pages → (fs : List Element) → RunOf (Spells f) (getD pages k []) fs → pageAnswer case k ≡ IsPage (answer 0 (length fs) (length (getD pages k [])) (length (given wordsOf fs)))
   page-accepted k h fs r =
-      page-read k h ∙ ap (λ (x : Outcome Element). IsPage (measured wordsOf (length (getD pages k [])) x)) (text.accepted-exactly f (getD pages k []) fs .1 r)
+      page-read k h ∙ ap (λ (x : Outcome Element). IsPage (roomyAnswer wordsOf (length (getD pages k [])) x)) (text.accepted-exactly f (getD pages k []) fs .1 r)
 
   -- In an accepted case every page is accepted by itself,
   pub each-accepted : (es : List Element) → AllSpelt f pages es → (k : ℕ) → k < length pages → (fs : List Element) × RunOf (Spells f) (getD pages k []) fs × (pageAnswer case k ≡ IsPage (answer 0 (length fs) (length (getD pages k [])) (length (given wordsOf fs))))
@@ -79,7 +78,7 @@ module _ (case : List ℕ) (form : ℕ) (f : Form) (is-form : formOf form ≡ Is
   pub all-accepted : ((k : ℕ) → k < length pages → (fs : List Element) × RunOf (Spells f) (getD pages k []) fs) → (es : List Element) × (readCase case ≡ all es)
   all-accepted each =
       let s = all-spelt f pages each in
-      (s .0, read-laid case form f pages is-form laid ∙ pages-accepted f pages (s .0) .1 (s .1))
+      (s .0, read-laid case form f pages is-form laid ∙ pages-accepted form f is-form pages (s .0) .1 (s .1))
 
   module _ (g r n p d : ℕ) (faulty : Faulty f pages g r n p d) where
     inside : g < length pages
@@ -95,8 +94,8 @@ module _ (case : List ℕ) (form : ℕ) (f : Form) (is-form : formOf form ≡ Is
     pub named-page : pageAnswer case g ≡ IsPage (answer r n p (countOf r d))
     named-page =
         page-read g inside
-        ∙ ap (λ (s : List ℕ). IsPage (measured wordsOf (length s) (readIn f s))) the-page
-        ∙ ap (λ (x : Outcome Element). IsPage (measured wordsOf (length (faulty .page)) x)) (text.refused-exactly f (faulty .page) r n p d .1 (faulty .refused))
+        ∙ ap (λ (s : List ℕ). IsPage (roomyAnswer wordsOf (length s) (readIn f s))) the-page
+        ∙ ap (λ (x : Outcome Element). IsPage (roomyAnswer wordsOf (length (faulty .page)) x)) (text.read-meets f (faulty .page) .faults r n p d .1 (faulty .refused))
 
     -- The pages before it are accepted.
     pub before-named : (k : ℕ) → k < g → (fs : List Element) × RunOf (Spells f) (getD pages k []) fs × (pageAnswer case k ≡ IsPage (answer 0 (length fs) (length (getD pages k [])) (length (given wordsOf fs))))

@@ -4,9 +4,9 @@ use Prim.Native.Nat.{ℕ}
 use mathlib.Core.List.{List}
 use lib.ListN.{length}
 use Rattle.run.proofs.OneAnswer.{Once, once, Once-both, once-both}
-use Rattle.tlx.specs.Check.{headerOf}
+use Rattle.case_table.specs.Check.{headerOf}
+use Rattle.case_writing.specs.FromParts.{writeCaseAnswer, writeCaseOctets}
 use Rattle.tlx.specs.Reading.{pageAnswer, readCaseAnswer, readCaseWords}
-use Rattle.tlx.specs.Writing.{writeCaseAnswer, writeCaseOctets}
 
 pub table : (form : ℕ) (case words lengths octets out : List ℕ) (page : ℕ)
     → Once (headerOf case)  -- header_of

@@ -1,87 +1,95 @@
--- From the first pass's answer to the whole answer of a case, with the room; and what a refused header answers.
+-- From the first pass's answer to the whole answer of a case, with the room (`run`'s laws of rooms, through `outcomeOf`); and what a refused header
+-- answers.
 -- Assumes nothing.
 use Prim.Native.Nat.{ℕ, _≤_, _<_}
-use mathlib.Core.Path.{_≡_, refl, sym, ap, subst, _∙_}
+use mathlib.Core.Path.{_≡_, refl, sym, ap, ap₂, _∙_}
 use mathlib.Core.Bool.{Bool, true, false}
 use mathlib.Core.List.{List, [], _∷_}
 use native.Mathlib.Omega.{arith}
 use lib.Dec.{leb}
 use lib.ListN.{length}
-use borrow.Author.Tests.{le-leb, lt-leb}
 use Rattle.run.specs.Choice.{pick}
 use Rattle.run.specs.Head.{Outcome, accepted, refusal}
-use Rattle.run.specs.Answers.{answer, bare, given, writtenOf}
-use Rattle.alphabet.specs.declared.Form.{Form}
-use Rattle.element.specs.Words.{wordsOf}
-use Rattle.element.specs.declared.Element.{Element}
-use Rattle.text.specs.Outcomes.{readIn}
-use Rattle.text.specs.Answers.{roomFor}
+use Rattle.run.specs.declared.Answer.{Answer}
+use Rattle.run.specs.Answers.{answer, bare, shortRoom, roomFor, writtenOf}
+use Rattle.run.proofs.Rooms as rooms
+use Rattle.sorts.specs.declared.FormFound.{FormFound}
+use Rattle.sorts.specs.declared.FormFound.the-variants.{Is, Nothing}
+use Rattle.sorts.specs.Forms.{formOf}
+use Rattle.element_words.specs.Words.{wordsOf}
+use Rattle.element_words.specs.declared.Element.{Element}
+use Rattle.case_table.specs.declared.Header.the-variants.{Refused, Pages}
+use Rattle.case_table.specs.Check.{headerOf, pagesOf}
 use Rattle.tlx.specs.declared.CaseAnswer.{CaseAnswer}
-use Rattle.tlx.specs.declared.Header.the-variants.{Refused, Pages}
-use Rattle.tlx.specs.Check.{headerOf}
-use Rattle.tlx.specs.Reading.{CaseOutcome, all, fault, joinPages, afterPage, readPages, readCase, turned, beside, outcomeOf, caseAnswer, caseMeasured, readCaseAnswer, readCaseWords}
-use Rattle.tlx.proofs.Headers.{right-header}
-use Rattle.tlx.proofs.Pages.{numbered, case-is}
+use Rattle.tlx.specs.Reading.{CaseOutcome, all, fault, joinPages, afterPage, readPage, readPages, readCase, turned, beside, outcomeOf, pageOf, caseAnswer, caseMeasured, readCaseAnswer, readCaseWords}
+use Rattle.tlx.proofs.Pages.{case-is, has-number}
 
--- a fault has a number
-abbrev pub Numbered : CaseOutcome → Type 0
-Numbered (all es) = Unit {0}
-Numbered (fault g r n p d) = 0 < r
+-- ---- a refusal has a number
 
-joined-numbered : (es : List Element) (k : ℕ) (x : CaseOutcome) → Numbered x → Numbered (joinPages es k x)
+joined-numbered : (es : List Element) (k : ℕ) (x : CaseOutcome) → rooms.Numbered (outcomeOf x) → rooms.Numbered (outcomeOf (joinPages es k x))
 joined-numbered es k (all fs) h = tt
 joined-numbered es k (fault g r n p d) h = h
 
-after-numbered : (f : Form) (page : List ℕ) (x : CaseOutcome) → Numbered x → (y : Outcome Element) → readIn f page ≡ y → Numbered (afterPage y x)
-after-numbered f page x h (accepted es) q = joined-numbered es 1 x h
-after-numbered f page x h (refusal r n p d) q = numbered f page r n p d q
+after-numbered : (x : CaseOutcome) → rooms.Numbered (outcomeOf x) → (y : Outcome Element) → rooms.Numbered y → rooms.Numbered (outcomeOf (afterPage y x))
+after-numbered x h (accepted es) z = joined-numbered es 1 x h
+after-numbered x h (refusal r n p d) z = z
 
-pub pages-numbered : (f : Form) (pages : List (List ℕ)) → Numbered (readPages f pages)
+page-numbered : (page : ℕ × List ℕ) → rooms.Numbered (readPage page)
+page-numbered page = by (formOf (page .0)) refl
+  where
+    by : (y : FormFound) → formOf (page .0) ≡ y → rooms.Numbered (readPage page)
+    by (Is f) q = rw q (has-number f (page .1) refl)
+    by Nothing q = rw q (omega arith)
+
+pages-numbered : (pages : List (ℕ × List ℕ)) → rooms.Numbered (outcomeOf (readPages pages))
 unfolding readPages
-pages-numbered f [] = tt
-pages-numbered f (page ∷ pages) = after-numbered f page (readPages f pages) (pages-numbered f pages) (readIn f page) refl
+pages-numbered [] = tt
+pages-numbered (page ∷ pages) = after-numbered (readPages pages) (pages-numbered pages) (readPage page) (page-numbered page)
 
-case-numbered : (case : List ℕ) (form pages : ℕ) → headerOf case ≡ Pages form pages → Numbered (readCase case)
-case-numbered case form pages q =
-    let r = right-header case form pages q in
-    subst Numbered (sym (case-is case form pages q r)) (pages-numbered (r .the-form) _)
+case-numbered : (case : List ℕ) (form pages : ℕ) → headerOf case ≡ Pages form pages → rooms.Numbered (outcomeOf (readCase case))
+case-numbered case form pages q = rw (case-is case form pages q) (pages-numbered (pagesOf case))
 
-module _ (n : ℕ) (l : List ℕ) (m : CaseAnswer) where
-  refuses-by : (x : CaseOutcome) → m ≡ caseMeasured n x → (m .number ≡ 0 → ⊥) → (m ≡ caseAnswer n (length l) x) × (l ≡ writtenOf wordsOf l (outcomeOf x))
-  refuses-by (all es) q h = absurd (h (ap (λ (y : CaseAnswer). y .number) q))
-  refuses-by (fault g r e p d) q h = (q, refl)
+-- ---- the whole answer
 
-  short-by : (x : CaseOutcome) → Numbered x → m ≡ caseMeasured n x → m .number ≡ 0 → length l < m .count
-      → (_≡_ {A = CaseAnswer} (beside 0 (answer 9 0 0 (m .count))) (caseAnswer n (length l) x)) × (l ≡ writtenOf wordsOf l (outcomeOf x))
-  short-by (all es) z q h k =
-      let c : m .count ≡ length (given wordsOf es) = ap (λ (y : CaseAnswer). y .count) q in
-      let t = lt-leb (length (given wordsOf es)) (length l) (omega arith) in
-      (simp (c, t), simp t)
-  short-by (fault g r e p d) z q h k = let y : m .number ≡ r = ap (λ (y : CaseAnswer). y .number) q in absurd (omega arith)
+-- an accepted case names no page
+no-page : (n : ℕ) (x : CaseOutcome) → rooms.Numbered (outcomeOf x) → caseMeasured n x .answer .number ≡ 0 → pageOf x ≡ 0
+no-page n (all es) z h = refl
+no-page n (fault g r e p d) z h = absurd (omega arith)
 
-  roomy-by : (x : CaseOutcome) → Numbered x → m ≡ caseMeasured n x → m .number ≡ 0 → m .count ≤ length l
-      → roomFor wordsOf (length l) (outcomeOf x) × (m ≡ caseAnswer n (length l) x)
-  roomy-by (all es) z q h k =
-      let c : m .count ≡ length (given wordsOf es) = ap (λ (y : CaseAnswer). y .count) q in
-      let t : length (given wordsOf es) ≤ length l = omega arith in
-      (t, q ∙ simp (le-leb (length (given wordsOf es)) (length l) t))
-  roomy-by (fault g r e p d) z q h k = let y : m .number ≡ r = ap (λ (y : CaseAnswer). y .number) q in absurd (omega arith)
+module _ (case : List ℕ) (form pages : ℕ) (header : headerOf case ≡ Pages form pages) (l : List ℕ) (a : CaseAnswer) (q : a ≡ caseMeasured (length case) (readCase case)) where
+  abbrev x : Outcome Element
+  x = outcomeOf (readCase case)
 
-module _ (case : List ℕ) (form pages : ℕ) (header : headerOf case ≡ Pages form pages) (l : List ℕ) (m : CaseAnswer) (q : m ≡ caseMeasured (length case) (readCase case)) where
+  abbrev m : Answer
+  m = a .answer
+
   -- the first pass refused
-  pub refuses : (m .number ≡ 0 → ⊥) → (m ≡ readCaseAnswer case (length l)) × (l ≡ readCaseWords case l)
+  pub refuses : (m .number ≡ 0 → ⊥) → (a ≡ readCaseAnswer case (length l)) × (l ≡ readCaseWords case l)
   unfolding readCaseAnswer readCaseWords
-  refuses = refuses-by (length case) l m (readCase case) q
+  refuses h =
+      let r = rooms.refuses wordsOf (length case) l m x (ap (λ (y : CaseAnswer). y .answer) q) h in
+      (ap₂ beside (ap (λ (y : CaseAnswer). y .page) q) (r .0), r .1)
 
-  -- the room is short
-  pub short : m .number ≡ 0 → length l < m .count → (_≡_ {A = CaseAnswer} (beside 0 (answer 9 0 0 (m .count))) (readCaseAnswer case (length l))) × (l ≡ readCaseWords case l)
-  unfolding readCaseAnswer readCaseWords
-  short = short-by (length case) l m (readCase case) (case-numbered case form pages header) q
+  module _ (h : m .number ≡ 0) where
+    z : rooms.Numbered x
+    z = case-numbered case form pages header
 
-  -- there is room
-  pub roomy : m .number ≡ 0 → m .count ≤ length l → roomFor wordsOf (length l) (outcomeOf (readCase case)) × (m ≡ readCaseAnswer case (length l))
-  unfolding readCaseAnswer
-  roomy = roomy-by (length case) l m (readCase case) (case-numbered case form pages header) q
+    named : pageOf (readCase case) ≡ 0
+    named = no-page (length case) (readCase case) z (sym (ap (λ (y : CaseAnswer). y .answer .number) q) ∙ h)
+
+    -- the room is short
+    pub short : (s : Answer) → s ≡ shortRoom (m .count) → length l < m .count → (_≡_ {A = CaseAnswer} (beside 0 s) (readCaseAnswer case (length l))) × (l ≡ readCaseWords case l)
+    unfolding readCaseAnswer readCaseWords
+    short s e k =
+        let r = rooms.short wordsOf (length case) l m x z (ap (λ (y : CaseAnswer). y .answer) q) h k in
+        (ap₂ beside (sym named) (e ∙ r .0), r .1)
+
+    -- there is room
+    pub roomy : m .count ≤ length l → roomFor wordsOf (length l) x × (a ≡ readCaseAnswer case (length l))
+    unfolding readCaseAnswer
+    roomy k =
+        let r = rooms.roomy wordsOf (length case) l m x z (ap (λ (y : CaseAnswer). y .answer) q) h k in
+        (r .0, ap₂ beside (ap (λ (y : CaseAnswer). y .page) q) (r .1))
 
 -- ---- a header that is refused
 
@@ -96,4 +104,5 @@ case-turned case r q = simp q
 pub turned-answers : (case : List ℕ) (r : ℕ) (l : List ℕ) → headerOf case ≡ Refused r → (_≡_ {A = CaseAnswer} (beside 0 (bare r)) (readCaseAnswer case (length l))) × (l ≡ readCaseWords case l)
 unfolding readCaseAnswer readCaseWords
 turned-answers case r l q =
-    (ap (λ (c : ℕ). beside 0 (answer r 0 0 c)) (sym (no-count (leb r 8))) ∙ sym (ap (caseAnswer (length case) (length l)) (case-turned case r q)), sym (ap (λ (x : CaseOutcome). writtenOf wordsOf l (outcomeOf x)) (case-turned case r q)))
+    let t = case-turned case r q in
+    (ap (λ (c : ℕ). beside 0 (answer r 0 0 c)) (sym (no-count (leb r 8))) ∙ sym (ap (caseAnswer (length case) (length l)) t), sym (ap (λ (y : CaseOutcome). writtenOf wordsOf l (outcomeOf y)) t))

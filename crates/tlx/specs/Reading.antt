@@ -1,4 +1,4 @@
--- What reading a case comes to: its answer, and what the lent words hold after.
+-- PROVED EQUAL to what Table says (proofs/Cases): what reading a case comes to, its answer and what the lent words hold after.
 -- Assumes nothing.
 use Prim.Native.Nat.{ℕ, _+_}
 use mathlib.Core.List.{List, [], _∷_, _++_}
@@ -7,19 +7,17 @@ use lib.ListN.{length, getD}
 use Rattle.run.specs.Choice.{pick}
 use Rattle.run.specs.Head.{Outcome, accepted, refusal}
 use Rattle.run.specs.declared.Answer.{Answer}
-use Rattle.run.specs.Answers.{bare, answerOf, writtenOf}
-use Rattle.alphabet.specs.declared.Form.{Form}
-use Rattle.alphabet.specs.Forms.{formOf}
-use Rattle.element.specs.declared.Element.{Element}
-use Rattle.element.specs.Words.{wordsOf}
-use Rattle.text.specs.Outcomes.{readIn}
-use Rattle.text.specs.Answers.{inForm, measured, measureAnswer}
+use Rattle.run.specs.Answers.{bare, answerOf, writtenOf, roomyAnswer}
+use Rattle.sorts.specs.Forms.{formOf, inForm}
+use Rattle.element_words.specs.declared.Element.{Element}
+use Rattle.element_words.specs.Words.{wordsOf}
+use Rattle.text_reading.specs.Answers.{readIn, readAnswer}
+use Rattle.case_table.specs.declared.Header.{Header}
+use Rattle.case_table.specs.declared.Header.the-variants.{Refused, Pages}
+use Rattle.case_table.specs.Check.{headerAnswer, headerOf, pagesOf}
 use Rattle.tlx.specs.declared.CaseAnswer.{CaseAnswer}
-use Rattle.tlx.specs.declared.Header.{Header}
-use Rattle.tlx.specs.declared.Header.the-variants.{Refused, Pages}
 use Rattle.tlx.specs.declared.Page.{Page}
 use Rattle.tlx.specs.declared.Page.the-variants.{Is, NoPage}
-use Rattle.tlx.specs.Check.{headerAnswer, headerOf, pagesOf}
 
 -- what a case, or some pages of it, come to
 pub data CaseOutcome : Type 0 where
@@ -38,24 +36,27 @@ abbrev pub afterPage : Outcome Element → CaseOutcome → CaseOutcome
 afterPage (accepted es) rest = joinPages es 1 rest
 afterPage (refusal r n p d) rest = fault 0 r n p d
 
+-- a page, its octets read as a text of its form; that the number is a form's has been asked by then, so this 11 is never given
+abbrev pub readPage : ℕ × List ℕ → Outcome Element
+readPage page = inForm (formOf (page .0)) (refusal 11 0 0 0) (λ f. readIn f (page .1))
+
 -- "then pages from the first"
-unfoldable pub readPages : Form → List (List ℕ) → CaseOutcome
-readPages f [] = all []
-readPages f (page ∷ pages) = afterPage (readIn f page) (readPages f pages)
+unfoldable pub readPages : List (ℕ × List ℕ) → CaseOutcome
+readPages [] = all []
+readPages (page ∷ pages) = afterPage (readPage page) (readPages pages)
 
 -- a refusal of the case itself: it names no page, element or place
 abbrev pub turned : ℕ → CaseOutcome
 turned r = fault 0 r 0 0 0
 
--- by the header: what it is refused with, or the pages in their form
+-- by the header: what it is refused with, or the form and how many pages
 abbrev pub byHeader : {A : Type 0} → Header → (ℕ → A) → (ℕ → ℕ → A) → A
 byHeader (Refused r) without within = without r
 byHeader (Pages form n) without within = within form n
 
--- a whole case: "13, 14, 11, 15, then pages from the first"; that the number is a form's has been asked by then, so the second 11 is never given
+-- a whole case: "13, 14, 11, 15, then pages from the first"
 unfoldable pub readCase : List ℕ → CaseOutcome
-readCase case =
-    byHeader (headerOf case) turned (λ form n. inForm (formOf form) (turned 11) (λ f. readPages f (pagesOf case)))
+readCase case = byHeader (headerOf case) turned (λ form n. readPages (pagesOf case))
 
 -- ---- the answer
 
@@ -71,8 +72,7 @@ pageOf (fault page r n p d) = page
 
 -- an answer, and the page beside it
 abbrev pub beside : ℕ → Answer → CaseAnswer
-beside page a =
-    record { number = a .number; element = a .element; place = a .place; count = a .count; page = page }
+beside page a = record { answer = a; page = page }
 
 -- "An accepted case answers 0, all elements, its length, and the count of its pages' words"; 9 where the room is short
 abbrev pub caseAnswer : ℕ → ℕ → CaseOutcome → CaseAnswer
@@ -92,14 +92,18 @@ abbrev pub pageValues : Page → Answer
 pageValues (Is a) = a
 pageValues NoPage = bare 0
 
--- the case's own refusal; else the answer of the page's octets, read as a text with room enough
+-- the answer of a page's octets, read as a text with room enough
+abbrev pub aloneAnswer : ℕ × List ℕ → Answer
+aloneAnswer page = readAnswer (page .0) (page .1) (length (page .1))
+
+-- the case's own refusal; else the page's answer
 unfoldable pub pageAnswer : List ℕ → ℕ → Page
 pageAnswer case page =
     byHeader (headerOf case) (λ r. Is (headerAnswer (Refused r)))
-    (λ form n. pick (ltb page n) (Is (measureAnswer form (getD (pagesOf case) page []))) NoPage)
+    (λ form n. pick (ltb page n) (Is (aloneAnswer (getD (pagesOf case) page (form, [])))) NoPage)
 
 -- ---- parts of the code
 
 -- the answer of a measuring: as with room enough
 abbrev pub caseMeasured : ℕ → CaseOutcome → CaseAnswer
-caseMeasured size x = beside (pageOf x) (measured wordsOf size (outcomeOf x))
+caseMeasured size x = beside (pageOf x) (roomyAnswer wordsOf size (outcomeOf x))

@@ -1,24 +1,30 @@
--- Document 01's table of numbers and its order of refusals, for a case: which numbers are given, with which page, and what the lent buffer holds
--- after. Nothing here speaks of a reader.
+-- TO BE BELIEVED: document 01's table of numbers and its order of refusals, for reading a case: which numbers are given, with which page,
+-- and what the lent buffer holds after. Nothing here speaks of a reader.
 -- Assumes nothing.
 use Prim.Native.Nat.{ℕ, _≤_, _<_}
 use mathlib.Core.Path.{_≡_}
-use mathlib.Core.List.{List, _∷_, _++_}
+use mathlib.Core.List.{List, [], _∷_, _++_}
 use lib.ListN.{length}
-use Rattle.run.specs.declared.Answer.{Answer}
-use Rattle.run.specs.Answers.{answer, bare, countOf, given, over}
-use Rattle.alphabet.specs.declared.Form.{Form}
-use Rattle.alphabet.specs.declared.FormFound.the-variants.{Is}
-use Rattle.alphabet.specs.Forms.{formOf}
-use Rattle.element.specs.declared.Element.{Element}
-use Rattle.element.specs.Words.{wordsOf}
-use Rattle.text.specs.Table.{IsForm, NoForm, ReadingFault}
+use Rattle.run.specs.Grammar.{RunOf}
+use Rattle.run.specs.Answers.{answer, shortRoom, countOf, given, over}
+use Rattle.sorts.specs.declared.Form.{Form}
+use Rattle.sorts.specs.declared.FormFound.the-variants.{Is}
+use Rattle.sorts.specs.Forms.{formOf}
+use Rattle.element_words.specs.declared.Element.{Element}
+use Rattle.element_words.specs.Words.{wordsOf}
+use Rattle.element_reading.specs.Grammar.{Spells}
+use Rattle.text_reading.specs.Table.{ReadingFault}
+use Rattle.case_table.specs.Grammar.{CaseOf, Turned}
 use Rattle.tlx.specs.declared.CaseAnswer.{CaseAnswer}
-use Rattle.tlx.specs.Layout.{caseWith}
-use Rattle.tlx.specs.Grammar.{CaseOf, Turned, AllSpelt, Parts}
 use Rattle.tlx.specs.Reading.{beside}
 
--- ---- reading
+-- ---- pages
+
+-- every page is a run of elements of the form; all of them joined
+pub data AllSpelt (f : Form) : List (List ℕ) → List Element → Type 0 where
+  none : AllSpelt f [] []
+  more : {page : List ℕ} {pages : List (List ℕ)} {es fs : List Element} → RunOf (Spells f) page es → AllSpelt f pages fs
+      → AllSpelt f (page ∷ pages) (es ++ fs)
 
 -- the pages are refused at one of them: those before it are runs of elements, and it is refused as a text of its octets alone
 pub record Faulty (f : Form) (pages : List (List ℕ)) (g r n p d : ℕ) : Type 0 where
@@ -43,30 +49,34 @@ pub record AcceptedCase (case : List ℕ) (es : List Element) : Type 0 where
 -- how a case is refused: by itself, or the case of pages is refused at one of them
 pub data RefusedCase (case : List ℕ) : ℕ → ℕ → ℕ → ℕ → ℕ → Type 0 where
   of-case : {r : ℕ} → Turned case r → RefusedCase case 0 r 0 0 0
-  of-page : {form : ℕ} {f : Form} {pages : List (List ℕ)} {g r n p d : ℕ} → formOf form ≡ Is f → CaseOf case form pages → Faulty f pages g r n p d → RefusedCase case g r n p d
+  of-page : {form : ℕ} {f : Form} {pages : List (List ℕ)} {g r n p d : ℕ} → formOf form ≡ Is f → CaseOf case form pages
+      → Faulty f pages g r n p d → RefusedCase case g r n p d
+
+-- how many words the elements give
+abbrev Size : List Element → ℕ
+Size es = length (given wordsOf es)
 
 -- "13, 14, 11, 15, then pages from the first .., then 9"
 pub data CaseTable (case words : List ℕ) : CaseAnswer → List ℕ → Type 0 where
   -- "the page named beside the answer (0 in any other answer)"; "A refusal writes nothing to any buffer."
   refused : {g r n p d : ℕ} → RefusedCase case g r n p d → CaseTable case words (beside g (answer r n p (countOf r d))) words
   -- 9: "lent room is short": "0; room needed"
-  short-room : {es : List Element} → AcceptedCase case es → length words < length (given wordsOf es) → CaseTable case words (beside 0 (answer 9 0 0 (length (given wordsOf es)))) words
+  short-room : {es : List Element} → AcceptedCase case es → length words < Size es
+      → CaseTable case words (beside 0 (shortRoom (Size es))) words
   -- "An accepted case answers 0, all elements, its length, and the count of its pages' words, written one page after another."
-  accepted : {es : List Element} → AcceptedCase case es → length (given wordsOf es) ≤ length words → CaseTable case words (beside 0 (answer 0 (length es) (length case) (length (given wordsOf es)))) (over words (given wordsOf es))
+  accepted : {es : List Element} → AcceptedCase case es → Size es ≤ length words
+      → CaseTable case words (beside 0 (answer 0 (length es) (length case) (Size es))) (over words (given wordsOf es))
 
 -- The number tells the row; 10 and 12 are not asked of a case.
 pub record CaseTells (case words : List ℕ) (a : CaseAnswer) (after : List ℕ) : Type 0 where
-  pub is-0 : a .number ≡ 0 → (es : List Element) × AcceptedCase case es × (length (given wordsOf es) ≤ length words) × (a ≡ beside 0 (answer 0 (length es) (length case) (length (given wordsOf es)))) × (after ≡ over words (given wordsOf es))
-  pub is-9 : a .number ≡ 9 → (es : List Element) × AcceptedCase case es × (length words < length (given wordsOf es)) × (a ≡ beside 0 (answer 9 0 0 (length (given wordsOf es))))
-  pub is-other : (a .number ≡ 0 → ⊥) → (a .number ≡ 9 → ⊥) → (d : ℕ) × RefusedCase case (a .page) (a .number) (a .element) (a .place) d × (a .count ≡ countOf (a .number) d)
-  pub not-10 : a .number ≡ 10 → ⊥
-  pub not-12 : a .number ≡ 12 → ⊥
-  pub kept : (a .number ≡ 0 → ⊥) → after ≡ words
-
--- ---- writing: "11, then 15 .., then 9; pages aren't read, so an accepted writing has element 0, and its place is the number of page octets"
-
-pub data WriteCaseTable (form : ℕ) (lengths octets case : List ℕ) : Answer → List ℕ → Type 0 where
-  no-form : NoForm form → WriteCaseTable form lengths octets case (bare 11) case
-  no-parts : IsForm form → (Parts lengths octets → ⊥) → WriteCaseTable form lengths octets case (bare 15) case
-  short-room : IsForm form → Parts lengths octets → length case < length (caseWith form lengths octets) → WriteCaseTable form lengths octets case (answer 9 0 0 (length (caseWith form lengths octets))) case
-  written : IsForm form → Parts lengths octets → length (caseWith form lengths octets) ≤ length case → WriteCaseTable form lengths octets case (answer 0 0 (length octets) (length (caseWith form lengths octets))) (over case (caseWith form lengths octets))
+  pub is-0 : a .answer .number ≡ 0
+      → (es : List Element) × AcceptedCase case es × (Size es ≤ length words)
+      × (a ≡ beside 0 (answer 0 (length es) (length case) (Size es))) × (after ≡ over words (given wordsOf es))
+  pub is-9 : a .answer .number ≡ 9
+      → (es : List Element) × AcceptedCase case es × (length words < Size es) × (a ≡ beside 0 (shortRoom (Size es)))
+  pub is-other : (a .answer .number ≡ 0 → ⊥) → (a .answer .number ≡ 9 → ⊥)
+      → (d : ℕ) × RefusedCase case (a .page) (a .answer .number) (a .answer .element) (a .answer .place) d
+      × (a .answer .count ≡ countOf (a .answer .number) d)
+  pub not-10 : a .answer .number ≡ 10 → ⊥
+  pub not-12 : a .answer .number ≡ 12 → ⊥
+  pub kept : (a .answer .number ≡ 0 → ⊥) → after ≡ words

@@ -1,12 +1,8 @@
-// Prints what `alphabet` answers, a line an answer, for the gate to hold against the file `stdout`,
+// Prints what the alphabets answer, a line an answer, for the gate to hold against the file `stdout`,
 // which is made from document 01's own lists and from other decoders' answers, never from our code.
 mod peers;
 mod say;
 
-use alphabet::Form;
-use alphabet::FormFound;
-use alphabet::Sort;
-use alphabet::Spelling;
 use lines::say::say;
 use lines::say::say_number;
 use say::say_code_point;
@@ -15,6 +11,10 @@ use say::say_found;
 use say::say_octet;
 use say::say_sort;
 use say::say_spelling;
+use sorts::Form;
+use sorts::FormFound;
+use sorts::Sort;
+use spelling::Spelling;
 
 // The tables that are printed for each form, entry by entry.
 enum Table {
@@ -38,7 +38,7 @@ fn print_form(number: u32) {
     say(b"form ");
     say_number(number as usize);
     say(b" =");
-    let found = alphabet::form_of(number);
+    let found = sorts::form_of(number);
     match found {
         FormFound::Is(form) => say_form(form),
         FormFound::Nothing => say(b" nothing"),
@@ -51,10 +51,7 @@ fn print_sort(form: Form, octet: u8) {
     say_form(form);
     say_octet(octet);
     say(b" =");
-    say_sort(alphabet::sort_in(form, octet));
-    if alphabet::is_plain(form, octet) {
-        say(b" plain");
-    }
+    say_sort(sorts::sort_in(form, octet));
     say(b"\n");
 }
 
@@ -63,7 +60,7 @@ fn print_shifted(form: Form, octet: u8) {
     say_form(form);
     say_octet(octet);
     say(b" =");
-    say_sort(alphabet::sort_shifted(form, octet));
+    say_sort(sorts::sort_shifted(form, octet));
     say(b"\n");
 }
 
@@ -81,9 +78,9 @@ fn say_first(form: Form, row: u8) {
 
 fn first_sort(form: Form, row: u8) -> Sort {
     match form {
-        Form::Eight => alphabet::sort_in(form, 0xC0 + row % 16),
-        Form::Seven => alphabet::sort_shifted(form, 0x40 + row % 16),
-        Form::Basic => alphabet::sort_in(form, 0xC0 + row % 16),
+        Form::Eight => sorts::sort_in(form, 0xC0 + row % 16),
+        Form::Seven => sorts::sort_shifted(form, 0x40 + row % 16),
+        Form::Basic => sorts::sort_in(form, 0xC0 + row % 16),
     }
 }
 
@@ -99,7 +96,7 @@ fn follower_at(column: u8) -> u8 {
 // What the first octet is, where it is no mark: then it begins no pair.
 fn say_paired(first: Sort, follower: u8) {
     match first {
-        Sort::Mark(mark) => say_found(alphabet::paired(mark, follower)),
+        Sort::Mark(mark) => say_found(squares::paired(mark, follower)),
         _ => say_sort(first),
     }
 }
@@ -119,13 +116,13 @@ fn print_spelling(form: Form, c: u32) {
     say_form(form);
     say_code_point(c);
     say(b" =");
-    say_spelling(alphabet::spell_in(form, c));
+    say_spelling(spelling::spell_in(form, c));
     say(b"\n");
 }
 
 // Most code points have no spelling, and then there is no line.
 fn print_if_spelt(form: Form, c: u32) {
-    let spelling = alphabet::spell_in(form, c);
+    let spelling = spelling::spell_in(form, c);
     if let Spelling::Unspelt = spelling {
         return;
     }

@@ -2,18 +2,20 @@
 //
 // A file has a heading and a line an input: its octets, a comma, and what the decoder gave.
 use crate::say::say_code_point;
-use alphabet::Form;
-use alphabet::Found;
-use alphabet::Sort;
 use lines::fields::field;
 use lines::fields::number_in;
 use lines::fields::part;
 use lines::fields::rest;
 use lines::fields::words_in;
 use lines::files::buffer;
-use lines::files::load;
 use lines::say::say;
 use lines::say::say_number;
+use lines::vectors::begin;
+use lines::vectors::line_of;
+use lines::vectors::pass;
+use sorts::Form;
+use sorts::Found;
+use sorts::Sort;
 
 // What we read where the octets stand alone. A control is its own number; a mark alone is refused,
 // since the input ends inside it, and so is the start of a sequence.
@@ -24,7 +26,7 @@ enum Reading {
 }
 
 fn read_one(form: Form, octet: u8) -> Reading {
-    let sort = alphabet::sort_in(form, octet);
+    let sort = sorts::sort_in(form, octet);
     match sort {
         Sort::Graphic(c) => Reading::Char(c),
         Sort::Control => Reading::Char(octet as u32),
@@ -33,7 +35,7 @@ fn read_one(form: Form, octet: u8) -> Reading {
 }
 
 fn read_pair(mark: u8, follower: u8) -> Reading {
-    let found = alphabet::paired(mark, follower);
+    let found = squares::paired(mark, follower);
     match found {
         Found::Char(c) => Reading::Char(c),
         Found::Nothing => Reading::Refused,
@@ -42,7 +44,7 @@ fn read_pair(mark: u8, follower: u8) -> Reading {
 
 // "CC stands before a spacing character": here the second octet is always SPACE or a letter.
 fn read_underlined(form: Form, octet: u8) -> Reading {
-    let sort = alphabet::sort_in(form, octet);
+    let sort = sorts::sort_in(form, octet);
     match sort {
         Sort::Graphic(c) => Reading::Underlined(c),
         _ => Reading::Refused,
@@ -50,7 +52,7 @@ fn read_underlined(form: Form, octet: u8) -> Reading {
 }
 
 fn read_two(form: Form, first: u8, second: u8) -> Reading {
-    let sort = alphabet::sort_in(form, first);
+    let sort = sorts::sort_in(form, first);
     match sort {
         Sort::Mark(mark) => read_pair(mark, second),
         Sort::Underline => read_underlined(form, second),
@@ -138,24 +140,12 @@ fn print_totals(name: &[u8], agree: usize, differ: usize) {
     say(b"\n");
 }
 
-fn compare_lines(name: &[u8], form: Form, text: &[u8]) {
-    let mut agree: usize = 0;
-    let mut differ: usize = 0;
-    let mut at = part(text, 0, b'\n').len() + 1;
-    while at < text.len() {
-        let line = part(text, at, b'\n');
-        if compare_line(name, form, line) {
-            agree += 1;
-        } else {
-            differ += 1;
-        }
-        at += line.len() + 1;
-    }
-    print_totals(name, agree, differ);
-}
-
 pub(crate) fn print_peer(name: &[u8], form: Form) {
     let mut text = buffer();
-    let n = load(name, &mut text);
-    compare_lines(name, form, &text[..n]);
+    let mut tally = begin(name, &mut text);
+    while tally.at < tally.end {
+        let same = compare_line(name, form, line_of(&text, tally));
+        tally = pass(&text, tally, same);
+    }
+    print_totals(name, tally.right, tally.wrong);
 }

@@ -1,11 +1,11 @@
 // The pieces that are printed. Each starts with a space.
-use alphabet::Form;
-use alphabet::Found;
-use alphabet::Sort;
-use alphabet::Spelling;
 use lines::answer::digit;
 use lines::say::say;
 use lines::say::say_number;
+use sorts::Form;
+use sorts::Found;
+use sorts::Sort;
+use spelling::Spelling;
 
 pub(crate) fn say_octet(octet: u8) {
     let n = octet as u32;

@@ -1,4 +1,4 @@
-// Runs the vectors of data/ through `element`, and prints for each file how many there are, how many are answered wrong,
+// Runs the vectors of data/ through the crates of one element, and prints for each file how many there are, how many are answered wrong,
 // and the first few of these in full. The vectors are made from a model of document 01, never from our code.
 //
 // A file has a heading and a line a vector: octets or words, a place, and the answer there, with commas between. An answer is
@@ -6,26 +6,26 @@
 // none is left. Where words are asked, the element's spelling in each form follows, `-` where the form does not hold it.
 // In an answer of ours `?` stands after what is not put as it should be: in number, with room for just it, with too little room,
 // or with the entries around it left alone.
-mod spelling;
+mod spelt;
 mod words;
 
-use alphabet::Form;
-use element::Element;
-use element::Step;
+use element_reading::Step;
+use element_words::Element;
+use element_words::Meant;
 use lines::answer::put;
 use lines::answer::put_after_space;
 use lines::answer::put_refusal;
 use lines::fields::field;
 use lines::fields::number_in;
 use lines::fields::octets_in;
-use lines::fields::part;
-use lines::fields::rest;
 use lines::fields::words_in;
 use lines::files::buffer;
-use lines::files::load;
-use lines::say::is_expected;
-use lines::say::say_totals;
-use spelling::put_spelling;
+use lines::vectors::begin;
+use lines::vectors::judge;
+use lines::vectors::line_of;
+use lines::vectors::say_totals;
+use sorts::Form;
+use spelt::put_spelling;
 use words::put_element;
 
 // What the lines of a file ask.
@@ -61,63 +61,49 @@ fn put_spellings(out: &mut [u8], at: usize, e: Element) -> usize {
 fn element_read(form: Form, text: &[u8], place: usize) -> Step {
     let mut octets = [0; 64];
     let n = octets_in(text, &mut octets);
-    element::element_at(form, &octets[..n], place)
+    element_reading::element_at(form, &octets[..n], place)
 }
 
-fn element_taken(text: &[u8], place: usize) -> Step {
+fn element_meant(text: &[u8], place: usize) -> Meant {
     let mut words = [0; 16];
     let n = words_in(text, &mut words);
-    element::element_of(&words[..n], place)
+    element_words::element_of(&words[..n], place)
 }
 
 fn answer_reading(out: &mut [u8], form: Form, text: &[u8], place: usize) -> usize {
     put_step(out, element_read(form, text, place))
 }
 
+// 01: number 10 has the place of its first word, and no count.
 fn answer_words(out: &mut [u8], text: &[u8], place: usize) -> usize {
-    let step = element_taken(text, place);
-    let at = put_step(out, step);
-    match step {
-        Step::Element(e, _) => put_spellings(out, at, e),
-        _ => at,
-    }
-}
-
-fn answer(out: &mut [u8], asked: Asked, text: &[u8], place: usize) -> usize {
-    match asked {
-        Asked::Reading(form) => answer_reading(out, form, text, place),
-        Asked::Words => answer_words(out, text, place),
-    }
-}
-
-// Whether our answer is the one expected; printed where it is not, if it is to be shown.
-fn is_right(asked: Asked, line: &[u8], shown: bool) -> bool {
-    let place = number_in(field(line, 1)) as usize;
-    let mut ours = [0; 256];
-    let n = answer(&mut ours, asked, field(line, 0), place);
-    is_expected(&ours, n, rest(line, 2), line, shown)
-}
-
-// The first ten wrong answers are shown.
-fn run_lines(name: &[u8], asked: Asked, text: &[u8]) {
-    let mut vectors: usize = 0;
-    let mut wrong: usize = 0;
-    let mut at = part(text, 0, b'\n').len() + 1;
-    while at < text.len() {
-        let line = part(text, at, b'\n');
-        if !is_right(asked, line, wrong < 10) {
-            wrong += 1;
+    let meant = element_meant(text, place);
+    match meant {
+        Meant::Element(e, next) => {
+            let at = put_read(out, e, next);
+            put_spellings(out, at, e)
         }
-        vectors += 1;
-        at += line.len() + 1;
+        Meant::NoElement => put_refusal(out, 10, place, 0),
+        Meant::End => put(out, 0, b'.'),
     }
-    say_totals(name, vectors, wrong);
+}
+
+fn answer(out: &mut [u8], asked: Asked, line: &[u8]) -> usize {
+    let place = number_in(field(line, 1)) as usize;
+    match asked {
+        Asked::Reading(form) => answer_reading(out, form, field(line, 0), place),
+        Asked::Words => answer_words(out, field(line, 0), place),
+    }
 }
 
 fn run_file(name: &[u8], asked: Asked) {
     let mut text = buffer();
-    let n = load(name, &mut text);
-    run_lines(name, asked, &text[..n]);
+    let mut tally = begin(name, &mut text);
+    while tally.at < tally.end {
+        let mut ours = [0; 256];
+        let n = answer(&mut ours, asked, line_of(&text, tally));
+        tally = judge(&text, tally, &ours, n);
+    }
+    say_totals(name, tally);
 }
 
 fn main() {

@@ -1,5 +1,5 @@
 // An element's parts as text, and whether the words that `put_words` puts are these parts.
-use element::Element;
+use element_words::Element;
 use lines::answer::put;
 use lines::answer::put_word;
 
@@ -29,7 +29,7 @@ fn part_at(e: Element, k: usize) -> u32 {
             if k == 0 {
                 head
             } else {
-                sequence::value_at(values, k - 1)
+                sequence_reading::value_at(values, k - 1)
             }
         }
     }
@@ -74,7 +74,7 @@ fn put_within(e: Element, room: &mut [u32], n: usize, at: usize) -> usize {
     if room.len() < n {
         return 0;
     }
-    element::put_words(e, &mut room[0..n], at)
+    element_words::put_words(e, &mut room[0..n], at)
 }
 
 // From entry 1 on there is one entry too few, or the place is far past the room: nothing is put.
@@ -100,7 +100,7 @@ fn uses_room(e: Element, size: usize) -> bool {
 
 fn agrees(e: Element) -> bool {
     let size = size_of(e);
-    element::words_in(e) == size
+    element_words::words_in(e) == size
         && ends_in_zeros(e)
         && keeps_short_room(e, size)
         && fills_room(e, size)

@@ -1,6 +1,6 @@
 // The functions of `text`, called with a part of a larger room, and what they answer as text.
-use element::Element;
-use element::Step;
+use element_reading::Step;
+use element_words::Element;
 use lines::answer::put;
 use lines::answer::put_after_space;
 use lines::answer::put_answer;
@@ -80,7 +80,7 @@ pub(crate) fn answer_converting(
 fn put_read(out: &mut [u8], e: Element, next: usize) -> usize {
     let mut words = [0; 16];
     fill_words(&mut words);
-    let n = element::put_words(e, &mut words, 0);
+    let n = element_words::put_words(e, &mut words, 0);
     let first = put_words(out, 0, &words, n);
     let second = put(out, first, b' ');
     let third = put(out, second, b'>');

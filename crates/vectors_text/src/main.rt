@@ -18,12 +18,12 @@ use calls::answer_reading;
 use calls::answer_writing;
 use lines::fields::field;
 use lines::fields::number_in;
-use lines::fields::part;
-use lines::fields::rest;
 use lines::files::buffer;
-use lines::files::load;
-use lines::say::is_expected;
-use lines::say::say_totals;
+use lines::vectors::begin;
+use lines::vectors::judge;
+use lines::vectors::line_of;
+use lines::vectors::say_totals;
+use peers::compare_file;
 
 // What the lines of a file ask.
 enum Asked {
@@ -33,7 +33,10 @@ enum Asked {
     OneElement,
 }
 
-fn answer(out: &mut [u8], asked: Asked, forms: &[u8], entries: &[u8], third: usize) -> usize {
+fn answer(out: &mut [u8], asked: Asked, line: &[u8]) -> usize {
+    let forms = field(line, 0);
+    let entries = field(line, 1);
+    let third = number_in(field(line, 2)) as usize;
     match asked {
         Asked::Reading => answer_reading(out, number_in(forms), entries, third),
         Asked::Writing => answer_writing(out, number_in(forms), entries, third),
@@ -42,40 +45,15 @@ fn answer(out: &mut [u8], asked: Asked, forms: &[u8], entries: &[u8], third: usi
     }
 }
 
-// Whether our answer is the one expected; printed where it is not, if it is to be shown.
-fn is_right(asked: Asked, line: &[u8], shown: bool) -> bool {
-    let third = number_in(field(line, 2)) as usize;
-    let mut ours = [0; 8192];
-    let n = answer(&mut ours, asked, field(line, 0), field(line, 1), third);
-    is_expected(&ours, n, rest(line, 3), line, shown)
-}
-
-// The first ten wrong answers are shown.
-fn run_lines(name: &[u8], asked: Asked, text: &[u8]) {
-    let mut vectors: usize = 0;
-    let mut wrong: usize = 0;
-    let mut at = part(text, 0, b'\n').len() + 1;
-    while at < text.len() {
-        let line = part(text, at, b'\n');
-        if !is_right(asked, line, wrong < 10) {
-            wrong += 1;
-        }
-        vectors += 1;
-        at += line.len() + 1;
-    }
-    say_totals(name, vectors, wrong);
-}
-
 fn run_file(name: &[u8], asked: Asked) {
     let mut text = buffer();
-    let n = load(name, &mut text);
-    run_lines(name, asked, &text[..n]);
-}
-
-fn run_peer(name: &[u8], form: u32) {
-    let mut text = buffer();
-    let n = load(name, &mut text);
-    peers::compare_lines(name, form, &text[..n]);
+    let mut tally = begin(name, &mut text);
+    while tally.at < tally.end {
+        let mut ours = [0; 8192];
+        let n = answer(&mut ours, asked, line_of(&text, tally));
+        tally = judge(&text, tally, &ours, n);
+    }
+    say_totals(name, tally);
 }
 
 fn main() {
@@ -89,6 +67,6 @@ fn main() {
     run_file(b"convert_2.csv", Asked::Converting);
     run_file(b"convert_3.csv", Asked::Converting);
     run_file(b"element.csv", Asked::OneElement);
-    run_peer(b"glibc_1.csv", 1);
-    run_peer(b"glibc_3.csv", 3);
+    compare_file(b"glibc_1.csv", 1);
+    compare_file(b"glibc_3.csv", 3);
 }

@@ -2,14 +2,17 @@
 //
 // A file has a heading and a line a text, in hex: its octets, the code points that the C library gave, and how many octets it took,
 // which are fewer than there are where it refused the code that comes next.
-ghost use Prim.Native.Nat.{_≤_};
+ghost use Prim.Native.Nat.{_<_};
 use lines::fields::field;
 use lines::fields::number_in;
 use lines::fields::octets_in;
-use lines::fields::part;
 use lines::fields::words_in;
+use lines::files::buffer;
 use lines::say::say;
 use lines::say::say_number;
+use lines::vectors::begin;
+use lines::vectors::line_of;
+use lines::vectors::pass;
 
 enum Verdict {
     // word for word
@@ -21,7 +24,9 @@ enum Verdict {
     Otherwise,
 }
 
-fn rank(verdict: Verdict) -> usize {
+fn rank(verdict: Verdict) -> usize
+    ensures { λ r. ⌜ r < 4 ⌝ }
+{
     match verdict {
         Verdict::Same => 0,
         Verdict::Listed => 1,
@@ -30,11 +35,10 @@ fn rank(verdict: Verdict) -> usize {
     }
 }
 
-// 1 where the verdict is the wanted one.
-fn one_if(verdict: Verdict, wanted: Verdict) -> usize
-    ensures { λ r. ⌜ r ≤ 1 ⌝ }
-{
-    if rank(verdict) == rank(wanted) { 1 } else { 0 }
+// Counts the verdict, by its rank. No file has so many texts that a count wraps.
+fn count(counts: &mut [usize; 4], verdict: Verdict) {
+    let k = rank(verdict);
+    counts[k] = std::num::wrapping_add_usize(counts[k], 1);
 }
 
 // The word of what the C library gave: its code point, or a control's word.
@@ -161,44 +165,28 @@ fn judge_line(name: &[u8], form: u32, line: &[u8]) -> Verdict {
     verdict
 }
 
-fn print_totals(
-    name: &[u8],
-    texts: usize,
-    same: usize,
-    listed: usize,
-    stopped: usize,
-    otherwise: usize,
-) {
+fn print_totals(name: &[u8], texts: usize, counts: &[usize; 4]) {
     say(name);
     say(b": ");
     say_number(texts);
     say(b" texts, ");
-    say_number(same);
+    say_number(counts[0]);
     say(b" the same, ");
-    say_number(listed);
+    say_number(counts[1]);
     say(b" but for listed characters, ");
-    say_number(stopped);
+    say_number(counts[2]);
     say(b" up to a code listed as refused, ");
-    say_number(otherwise);
+    say_number(counts[3]);
     say(b" otherwise\n");
 }
 
-pub(crate) fn compare_lines(name: &[u8], form: u32, text: &[u8]) {
-    let mut texts: usize = 0;
-    let mut same: usize = 0;
-    let mut listed: usize = 0;
-    let mut stopped: usize = 0;
-    let mut otherwise: usize = 0;
-    let mut at = part(text, 0, b'\n').len() + 1;
-    while at < text.len() {
-        let line = part(text, at, b'\n');
-        let verdict = judge_line(name, form, line);
-        texts += 1;
-        same += one_if(verdict, Verdict::Same);
-        listed += one_if(verdict, Verdict::Listed);
-        stopped += one_if(verdict, Verdict::Stopped);
-        otherwise += one_if(verdict, Verdict::Otherwise);
-        at += line.len() + 1;
+pub(crate) fn compare_file(name: &[u8], form: u32) {
+    let mut text = buffer();
+    let mut tally = begin(name, &mut text);
+    let mut counts = [0; 4];
+    while tally.at < tally.end {
+        count(&mut counts, judge_line(name, form, line_of(&text, tally)));
+        tally = pass(&text, tally, true);
     }
-    print_totals(name, texts, same, listed, stopped, otherwise);
+    print_totals(name, tally.right, &counts);
 }

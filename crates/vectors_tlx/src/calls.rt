@@ -1,4 +1,8 @@
 // The functions of `tlx`, called with a part of a larger room, and what they answer as text.
+ghost use Rattle.io.specs.Counts.{Counts};
+use crate::runs::octets_in_runs;
+use crate::runs::put_octet_runs;
+use crate::runs::put_word_runs;
 use lines::answer::put;
 use lines::answer::put_after_space;
 use lines::answer::put_answer;
@@ -7,6 +11,8 @@ use lines::answer::put_numbers;
 use lines::answer::put_place;
 use lines::answer::unasked;
 use lines::answer::written;
+use lines::fields::field;
+use lines::fields::number_in;
 use lines::fields::octets_in;
 use lines::fields::words_in;
 use lines::room::fill_octets;
@@ -20,23 +26,7 @@ use tlx::Page;
 
 // An answer of four numbers, with page 0 beside it.
 fn with_no_page(answer: Answer) -> CaseAnswer {
-    CaseAnswer {
-        number: answer.number,
-        element: answer.element,
-        place: answer.place,
-        count: answer.count,
-        page: 0,
-    }
-}
-
-// The four numbers, without the page.
-pub(crate) fn without_page(answer: CaseAnswer) -> Answer {
-    Answer {
-        number: answer.number,
-        element: answer.element,
-        place: answer.place,
-        count: answer.count,
-    }
+    CaseAnswer { answer, page: 0 }
 }
 
 fn read_into(case: &[u8], words: &mut [u32], room: usize) -> CaseAnswer {
@@ -44,27 +34,6 @@ fn read_into(case: &[u8], words: &mut [u32], room: usize) -> CaseAnswer {
         return with_no_page(unasked());
     }
     tlx::read_case(case, &mut words[0..room])
-}
-
-pub(crate) fn read_first(octets: &[u8], n: usize, words: &mut [u32], room: usize) -> CaseAnswer {
-    if octets.len() < n {
-        return with_no_page(unasked());
-    }
-    read_into(&octets[0..n], words, room)
-}
-
-pub(crate) fn page_first(octets: &[u8], n: usize, page: usize) -> Page {
-    if octets.len() < n {
-        return Page::Is(unasked());
-    }
-    tlx::page_elements(&octets[0..n], page)
-}
-
-fn header_first(octets: &[u8], n: usize) -> Header {
-    if octets.len() < n {
-        return Header::Refused(99);
-    }
-    tlx::header_of(&octets[0..n])
 }
 
 fn write_into(form: u32, lengths: &[u32], octets: &[u8], case: &mut [u8], room: usize) -> Answer {
@@ -78,34 +47,18 @@ fn write_into(form: u32, lengths: &[u32], octets: &[u8], case: &mut [u8], room: 
 fn write_sizes_in(form: u32, sizes: &[u8], octets: &[u8], case: &mut [u8], room: usize) -> Answer {
     let mut lengths = [0; 320];
     let n = words_in(sizes, &mut lengths);
-    if lengths.len() < n {
-        return unasked();
-    }
-    write_into(form, &lengths[0..n], octets, case, room)
-}
-
-pub(crate) fn write_first(
-    form: u32,
-    sizes: &[u8],
-    octets: &[u8],
-    n: usize,
-    case: &mut [u8],
-    room: usize,
-) -> Answer {
-    if octets.len() < n {
-        return unasked();
-    }
-    write_sizes_in(form, sizes, &octets[0..n], case, room)
+    write_into(form, &lengths[..n], octets, case, room)
 }
 
 // The five numbers, and a comma.
-pub(crate) fn put_case_answer(out: &mut [u8], answer: CaseAnswer) -> usize {
-    let four = put_numbers(out, without_page(answer));
+fn put_case_answer(out: &mut [u8], answer: CaseAnswer) -> usize {
+    let numbers = answer.answer;
+    let four = put_numbers(out, numbers);
     let five = put_after_space(out, four, answer.page);
     put(out, five, b',')
 }
 
-pub(crate) fn put_page(out: &mut [u8], page: Page) -> usize {
+fn put_page(out: &mut [u8], page: Page) -> usize {
     match page {
         Page::Is(answer) => put_numbers(out, answer),
         Page::NoPage => put(out, 0, b'.'),
@@ -125,44 +78,65 @@ fn put_header(out: &mut [u8], header: Header) -> usize {
     }
 }
 
+// Puts the octets of a list, and answers how many there are, as far as there is room. The lists of a long case are runs.
+fn octets_of(is_long: bool, text: &[u8], out: &mut [u8]) -> usize
+    ensures { λ r. ⌜ Counts r (now (out .exit)) ⌝ }
+{
+    if is_long {
+        return octets_in_runs(text, out);
+    }
+    octets_in(text, out)
+}
+
+fn number_field(line: &[u8], k: usize) -> u32 {
+    number_in(field(line, k))
+}
+
 // The case's answer, and the words that it puts.
-pub(crate) fn answer_reading(out: &mut [u8], case: &[u8], room: usize) -> usize {
-    let mut octets = [0; 1024];
-    let n = octets_in(case, &mut octets);
-    let mut words = [0; 1024];
+pub(crate) fn answer_reading(out: &mut [u8], is_long: bool, line: &[u8]) -> usize {
+    let mut octets = [0; 70000];
+    let n = octets_of(is_long, field(line, 0), &mut octets);
+    let mut words = [0; 70000];
     fill_words(&mut words);
-    let answer = read_first(&octets, n, &mut words, room);
+    let answer = read_into(&octets[..n], &mut words, number_field(line, 1) as usize);
     let next = put_case_answer(out, answer);
-    put_words(out, next, &words, written(without_page(answer)))
+    let numbers = answer.answer;
+    let count = written(numbers);
+    if is_long {
+        return put_word_runs(out, next, &words, count);
+    }
+    put_words(out, next, &words, count)
 }
 
 // The page's answer.
-pub(crate) fn answer_page(out: &mut [u8], case: &[u8], page: usize) -> usize {
-    let mut octets = [0; 1024];
-    let n = octets_in(case, &mut octets);
-    put_page(out, page_first(&octets, n, page))
+pub(crate) fn answer_page(out: &mut [u8], is_long: bool, line: &[u8]) -> usize {
+    let mut octets = [0; 70000];
+    let n = octets_of(is_long, field(line, 0), &mut octets);
+    put_page(
+        out,
+        tlx::page_elements(&octets[..n], number_field(line, 1) as usize),
+    )
 }
 
 // What header and table say.
-pub(crate) fn answer_header(out: &mut [u8], case: &[u8]) -> usize {
-    let mut octets = [0; 1024];
-    let n = octets_in(case, &mut octets);
-    put_header(out, header_first(&octets, n))
+pub(crate) fn answer_header(out: &mut [u8], is_long: bool, line: &[u8]) -> usize {
+    let mut octets = [0; 70000];
+    let n = octets_of(is_long, field(line, 0), &mut octets);
+    put_header(out, tlx::header_of(&octets[..n]))
 }
 
 // The answer of the parts, and the case that it puts.
-pub(crate) fn answer_writing(
-    out: &mut [u8],
-    form: u32,
-    sizes: &[u8],
-    text: &[u8],
-    room: usize,
-) -> usize {
-    let mut octets = [0; 1024];
-    let n = octets_in(text, &mut octets);
-    let mut case = [0; 2048];
+pub(crate) fn answer_writing(out: &mut [u8], is_long: bool, line: &[u8]) -> usize {
+    let mut octets = [0; 70000];
+    let n = octets_of(is_long, field(line, 2), &mut octets);
+    let mut case = [0; 70000];
     fill_octets(&mut case);
-    let answer = write_first(form, sizes, &octets, n, &mut case, room);
+    let form = number_field(line, 0);
+    let room = number_field(line, 3) as usize;
+    let answer = write_sizes_in(form, field(line, 1), &octets[..n], &mut case, room);
     let next = put_answer(out, answer);
+    if is_long {
+        return put_octet_runs(out, next, &case, written(answer));
+    }
     put_octets(out, next, &case, written(answer))
 }

@@ -1,29 +1,33 @@
+-- The loop over a text knows what it has counted (spelt-turn); a step that is no element is reading's refusal (spelt-stop), an element
+-- that the target does not hold is the refusal 10 (spelt-ten), and at the end all is counted (spelt-end).
 use Prim.Native.Nat.{_-_}
-use mathlib.Core.Path.{sym, _∙_}
+use mathlib.Core.Path.{refl, sym, _∙_}
 use native.Mathlib.Omega.{arith}
-use borrow.Author.Needs.{needs}
 use lib.ListN.{length}
-use Rattle.text.specs.Answers.{same}
-use Rattle.text.proofs.Passed.{Measured, measure-start, small, measure-onward, measure-turn, measured-all}
-use Rattle.text.proofs.Heads.{spelt-short}
-use Rattle.text.specs.Outcomes.{Respells, respellHead}
-use Rattle.text.proofs.Heads.{respell-reads}
-use Rattle.text.proofs.Loops.{here}
-use Rattle.text.proofs.Writes.{respell-here, respell-not, respell-stop}
+use borrow.Author.Needs.{needs}
+use Rattle.run.specs.Answers.{same}
+use Rattle.run.proofs.Loops.{Counted}
+use Rattle.run.proofs.SpeltLoops.{spelt-start, spelt-small, spelt-end, spelt-stop, spelt-ten, spelt-onward, spelt-turn}
+use Rattle.element_reading.proofs.Reader.{reads}
+use Rattle.text_reading.proofs.Steps.{here, step-refused}
+use Rattle.element_spelling.specs.ElementOctets.{spellElement}
+use Rattle.text.specs.Outcomes.{respellHead}
+use Rattle.text.proofs.SpeltSizes.{spelt-short}
 use Rattle.text.proofs.measure_convert.Statement.{statement}
 use Rattle.text.proofs.measure_convert.Tie as tie
 
 abbrev Inv-loop : tie.InvT-loop
-Inv-loop source target text at₀ n₀ count₀ at n count = Measured (respellHead source target) same text at n count
+Inv-loop source target codes text at₀ n₀ count₀ at n count = Counted (respellHead source target) same 34 text at n count
 
 abbrev μ-loop : tie.MeasureT-loop
-μ-loop source target text at₀ n₀ count₀ at n count = length text - at
+μ-loop source target codes text at₀ n₀ count₀ at n count = length text - at
 
 loop-holds : tie.Need-loop-holds Inv-loop μ-loop
-loop-holds c = measure-start (respellHead (c .before .args .source) (c .before .args .target)) (Respells (c .before .args .source) (c .before .args .target)) (respell-reads (c .before .args .source) (c .before .args .target)) same (c .before .args .text .now)
+loop-holds c =
+    let a = c .before .args in spelt-start (reads (a .source)) (spellElement (a .target)) (spelt-short (a .target)) (a .text .now)
 
-step-at-requires : tie.Need-step-at-requires Inv-loop μ-loop
-step-at-requires c κs = search needs
+step-in-requires : tie.Need-step-in-requires Inv-loop μ-loop
+step-in-requires c κs = search needs
 
 enum-known-step : tie.Need-enum-known-step Inv-loop μ-loop
 enum-known-step c = search needs
@@ -32,33 +36,89 @@ refusal-requires : tie.Need-refusal-requires Inv-loop μ-loop
 refusal-requires c κs = search needs
 
 returns : tie.Need-returns Inv-loop μ-loop
-returns c = c .refusal .ensures ∙ respell-stop (c .before .before .before .before .before .before .args .source) (c .before .before .before .before .before .before .args .target) (c .before .before .before .before .before .before .args .text .now) _ _ _ (c .before .before .before .before .loop .inv) _ (c .before .before .step-at .ensures) (c .before .match .keys2) (c .before .before .before .loop-test .taken)
+returns c =
+    let s3 = c .before .before .before in
+    let s4 = s3 .before in
+    let s6 = s4 .before .before in
+    let a = s6 .args in
+    let i = s4 .loop in
+    let h =
+    step-refused (a .source) (a .text .now) _ _ (c .before .before .step-in .ensures) (c .before .match .keys2) (s3 .loop-test .taken) in
+    let end = spelt-stop (reads (a .source)) (spellElement (a .target)) (spelt-short (a .target)) (a .text .now) (i .inv) (h .here) refl in
+    c .refusal .ensures ∙ h .answers _ ∙ end
 
 spelt-size-requires : tie.Need-spelt-size-requires Inv-loop μ-loop
 spelt-size-requires c κs = search needs
 
+not-held-requires : tie.Need-not-held-requires Inv-loop μ-loop
+not-held-requires c κs = search needs
+
 returns-2 : tie.Need-returns-2 Inv-loop μ-loop
-returns-2 c = respell-not (c .before .before .before .before .before .before .before .before .before .args .source) (c .before .before .before .before .before .before .before .before .before .args .target) (c .before .before .before .before .before .before .before .before .before .args .text .now) _ _ _ (c .before .before .before .before .before .before .before .loop .inv) _ _ ((here (c .before .before .before .before .before .before .before .before .before .args .source) (c .before .before .before .before .before .before .before .before .before .args .text .now) _ _ _ (sym (c .before .before .before .before .before .step-at .ensures) ∙ c .before .before .before .step .given .1)) .here) (sym (c .before .spelt-size .ensures) ∙ c .if1 .taken)
+returns-2 c =
+    let s4 = c .before .before .before .before in
+    let s6 = s4 .before .before in
+    let s8 = s6 .before .before in
+    let s10 = s8 .before .before in
+    let a = s10 .args in
+    let i = s8 .loop in
+    let h = here (a .source) (a .text .now) _ _ _ (sym (s6 .step-in .ensures) ∙ s4 .step .given .1) in
+    c .not-held .ensures ∙ spelt-ten (reads (a .source)) (spellElement (a .target)) (spelt-short (a .target)) (a .text .now) (i .inv)
+    (h .here) (c .before .before .spelt-size .ensures) (c .before .if1 .taken)
 
 add-n : tie.Need-add-n Inv-loop μ-loop
-add-n c = omega (arith, small (respellHead (c .before .before .before .before .before .before .before .before .before .args .source) (c .before .before .before .before .before .before .before .before .before .args .target)) (Respells (c .before .before .before .before .before .before .before .before .before .args .source) (c .before .before .before .before .before .before .before .before .before .args .target)) (respell-reads (c .before .before .before .before .before .before .before .before .before .args .source) (c .before .before .before .before .before .before .before .before .before .args .target)) same (c .before .before .before .before .before .before .before .before .before .args .text .now) _ _ _ (c .before .before .before .before .before .before .before .loop .inv), c .before .before .before .before .before .before .before .before .before .pre)
+add-n c =
+    let s7 = c .before .before .before .before .before .before .before in
+    let s9 = s7 .before .before in
+    let a = s9 .args in
+    omega (
+      arith,
+      spelt-small (reads (a .source)) (spellElement (a .target)) (spelt-short (a .target)) (a .text .now)
+          (s7 .loop .inv),
+      s9 .pre .1,
+    )
 
 add-count : tie.Need-add-count Inv-loop μ-loop
-add-count c = omega (arith, small (respellHead (c .before .before .before .before .before .before .before .before .before .args .source) (c .before .before .before .before .before .before .before .before .before .args .target)) (Respells (c .before .before .before .before .before .before .before .before .before .args .source) (c .before .before .before .before .before .before .before .before .before .args .target)) (respell-reads (c .before .before .before .before .before .before .before .before .before .args .source) (c .before .before .before .before .before .before .before .before .before .args .target)) same (c .before .before .before .before .before .before .before .before .before .args .text .now) _ _ _ (c .before .before .before .before .before .before .before .loop .inv), c .before .before .before .before .before .before .before .before .before .pre, spelt-short (c .before .before .before .before .before .before .before .before .before .args .target) (c .before .before .before .step .given .0 .0), c .before .spelt-size .ensures)
+add-count c =
+    let s3 = c .before .before .before in
+    let s7 = s3 .before .before .before .before in
+    let s9 = s7 .before .before in
+    let a = s9 .args in
+    let small = spelt-small (reads (a .source)) (spellElement (a .target)) (spelt-short (a .target)) (a .text .now) (s7 .loop .inv) in
+    let e = s3 .step .given .0 .0 in
+    omega (arith, small, s9 .pre .1, spelt-short (a .target) e, c .before .spelt-size .ensures)
 
 loop-less : tie.Need-loop-less Inv-loop μ-loop
 loop-less c =
-    let h = here (c .before .before .before .before .before .before .before .before .before .args .source) (c .before .before .before .before .before .before .before .before .before .args .text .now) _ _ _ (sym (c .before .before .before .before .before .step-at .ensures) ∙ c .before .before .before .step .given .1) in
-    omega (arith, measure-onward (respellHead (c .before .before .before .before .before .before .before .before .before .args .source) (c .before .before .before .before .before .before .before .before .before .args .target)) (Respells (c .before .before .before .before .before .before .before .before .before .args .source) (c .before .before .before .before .before .before .before .before .before .args .target)) (respell-reads (c .before .before .before .before .before .before .before .before .before .args .source) (c .before .before .before .before .before .before .before .before .before .args .target)) same (c .before .before .before .before .before .before .before .before .before .args .text .now) _ _ _ (c .before .before .before .before .before .before .before .loop .inv) _ _ (respell-here (c .before .before .before .before .before .before .before .before .before .args .source) (c .before .before .before .before .before .before .before .before .before .args .target) (c .before .before .before .before .before .before .before .before .before .args .text .now) (c .before .before .before .before .before .before .before .loop .at) (h .size) (c .before .before .before .step .given .0 .0) (h .here) (λ z. c .if1 .left (c .before .spelt-size .ensures ∙ z))), h .onward)
+    let s3 = c .before .before .before in
+    let s5 = s3 .before .before in
+    let s7 = s5 .before .before in
+    let s9 = s7 .before .before in
+    let a = s9 .args in
+    let i = s7 .loop in
+    let h = here (a .source) (a .text .now) _ _ _ (sym (s5 .step-in .ensures) ∙ s3 .step .given .1) in
+    let on =
+    spelt-onward (reads (a .source)) (spellElement (a .target)) (spelt-short (a .target)) (a .text .now) (i .inv) (h .here)
+    (c .before .spelt-size .ensures) (c .if1 .left) in
+    omega (arith, on, h .onward)
 
 loop-again : tie.Need-loop-again Inv-loop μ-loop
 loop-again c =
-    let h = here (c .before .before .before .before .before .before .before .before .before .args .source) (c .before .before .before .before .before .before .before .before .before .args .text .now) _ _ _ (sym (c .before .before .before .before .before .step-at .ensures) ∙ c .before .before .before .step .given .1) in
-    measure-turn (respellHead (c .before .before .before .before .before .before .before .before .before .args .source) (c .before .before .before .before .before .before .before .before .before .args .target)) (Respells (c .before .before .before .before .before .before .before .before .before .args .source) (c .before .before .before .before .before .before .before .before .before .args .target)) (respell-reads (c .before .before .before .before .before .before .before .before .before .args .source) (c .before .before .before .before .before .before .before .before .before .args .target)) same (c .before .before .before .before .before .before .before .before .before .args .text .now) _ _ _ (c .before .before .before .before .before .before .before .loop .inv) _ _ _ _ (respell-here (c .before .before .before .before .before .before .before .before .before .args .source) (c .before .before .before .before .before .before .before .before .before .args .target) (c .before .before .before .before .before .before .before .before .before .args .text .now) (c .before .before .before .before .before .before .before .loop .at) (h .size) (c .before .before .before .step .given .0 .0) (h .here) (λ z. c .if1 .left (c .before .spelt-size .ensures ∙ z))) (h .onward) (c .before .spelt-size .ensures)
-    (omega (arith, spelt-short (c .before .before .before .before .before .before .before .before .before .args .target) (c .before .before .before .step .given .0 .0), c .before .spelt-size .ensures))
+    let s3 = c .before .before .before in
+    let s5 = s3 .before .before in
+    let s7 = s5 .before .before in
+    let s9 = s7 .before .before in
+    let a = s9 .args in
+    let i = s7 .loop in
+    let h = here (a .source) (a .text .now) _ _ _ (sym (s5 .step-in .ensures) ∙ s3 .step .given .1) in
+    spelt-turn (reads (a .source)) (spellElement (a .target)) (spelt-short (a .target)) (a .text .now) (i .inv) (h .here)
+    (c .before .spelt-size .ensures) (h .onward) (c .if1 .left)
 
 returns-3 : tie.Need-returns-3 Inv-loop μ-loop
-returns-3 c = measured-all (respellHead (c .before .before .before .args .source) (c .before .before .before .args .target)) (Respells (c .before .before .before .args .source) (c .before .before .before .args .target)) (respell-reads (c .before .before .before .args .source) (c .before .before .before .args .target)) same (c .before .before .before .args .text .now) _ _ _ (c .before .loop .inv) (c .loop-test .left)
+returns-3 c =
+    let s3 = c .before .before .before in
+    let a = s3 .args in
+    spelt-end (reads (a .source)) (spellElement (a .target)) (spelt-short (a .target)) (a .text .now) (c .before .loop .inv)
+    (c .loop-test .left)
 
 pub measure-convert-spec : {M : Type 1} → statement M
 measure-convert-spec =
@@ -67,11 +127,12 @@ measure-convert-spec =
     Inv-loop
     μ-loop
     loop-holds
-    step-at-requires
+    step-in-requires
     enum-known-step
     refusal-requires
     returns
     spelt-size-requires
+    not-held-requires
     returns-2
     add-n
     add-count

@@ -1,63 +1,113 @@
+-- The loop over words knows what it has counted (spelt-turn); words that are no element, and an element without octets, are the refusal 10
+-- (spelt-stop, spelt-ten), and at the end all is counted (spelt-end).
 use Prim.Native.Nat.{_-_}
-use mathlib.Core.Path.{sym, _∙_}
+use mathlib.Core.Path.{refl, sym, _∙_}
 use native.Mathlib.Omega.{arith}
-use borrow.Author.Needs.{needs}
 use lib.ListN.{length}
-use Rattle.element.specs.Spelling.{Writes, spellHead}
-use Rattle.text.specs.Answers.{same}
-use Rattle.text.proofs.Passed.{Measured, measure-start, small, measure-onward, measure-turn, measured-all}
-use Rattle.text.proofs.Heads.{spelt-short}
-use Rattle.element.proofs.Writer.{writer-reads}
-use Rattle.text.proofs.Writes.{word-here, write-here, write-not, write-stop}
+use borrow.Author.Needs.{needs}
+use Rattle.run.specs.Answers.{same}
+use Rattle.run.proofs.Loops.{Counted}
+use Rattle.run.proofs.SpeltLoops.{spelt-start, spelt-small, spelt-end, spelt-stop, spelt-ten, spelt-onward, spelt-turn}
+use Rattle.element_words.proofs.Words.{words-read}
+use Rattle.element_spelling.specs.ElementOctets.{spellElement, spellHead}
+use Rattle.text.proofs.SpeltSizes.{spelt-short}
+use Rattle.text.proofs.Places.{word-here, no-word-here}
 use Rattle.text.proofs.measure_write.Statement.{statement}
 use Rattle.text.proofs.measure_write.Tie as tie
 
 abbrev Inv-loop : tie.InvT-loop
-Inv-loop form words at₀ n₀ count₀ at n count = Measured (spellHead form) same words at n count
+Inv-loop form words at₀ n₀ count₀ at n count = Counted (spellHead form) same 34 words at n count
 
 abbrev μ-loop : tie.MeasureT-loop
 μ-loop form words at₀ n₀ count₀ at n count = length words - at
 
 loop-holds : tie.Need-loop-holds Inv-loop μ-loop
-loop-holds c = measure-start (spellHead (c .before .args .form)) (Writes (c .before .args .form)) (writer-reads (c .before .args .form)) same (c .before .args .words .now)
+loop-holds c = let a = c .before .args in spelt-start words-read (spellElement (a .form)) (spelt-short (a .form)) (a .words .now)
 
 element-of-requires : tie.Need-element-of-requires Inv-loop μ-loop
 element-of-requires c κs = search needs
 
-enum-known-step : tie.Need-enum-known-step Inv-loop μ-loop
-enum-known-step c = search needs
+enum-known-meant : tie.Need-enum-known-meant Inv-loop μ-loop
+enum-known-meant c = search needs
 
-refusal-requires : tie.Need-refusal-requires Inv-loop μ-loop
-refusal-requires c κs = search needs
+not-held-requires : tie.Need-not-held-requires Inv-loop μ-loop
+not-held-requires c κs = search needs
 
 returns : tie.Need-returns Inv-loop μ-loop
-returns c = c .refusal .ensures ∙ write-stop (c .before .before .before .before .before .before .args .form) (c .before .before .before .before .before .before .args .words .now) _ _ _ (c .before .before .before .before .loop .inv) _ (c .before .before .element-of .ensures) (c .before .match .keys2) (c .before .before .before .loop-test .taken)
+returns c =
+    let s3 = c .before .before .before in
+    let s4 = s3 .before in
+    let s6 = s4 .before .before in
+    let a = s6 .args in
+    let i = s4 .loop in
+    let q = no-word-here (a .words .now) _ (s3 .loop-test .taken) _ (c .before .before .element-of .ensures) (c .before .match .keys2) in
+    c .not-held .ensures ∙ spelt-stop words-read (spellElement (a .form)) (spelt-short (a .form)) (a .words .now) (i .inv) q refl
 
 spelt-size-requires : tie.Need-spelt-size-requires Inv-loop μ-loop
 spelt-size-requires c κs = search needs
 
+not-held-requires-2 : tie.Need-not-held-requires-2 Inv-loop μ-loop
+not-held-requires-2 c κs = search needs
+
 returns-2 : tie.Need-returns-2 Inv-loop μ-loop
-returns-2 c = write-not (c .before .before .before .before .before .before .before .before .before .args .form) (c .before .before .before .before .before .before .before .before .before .args .words .now) _ _ _ (c .before .before .before .before .before .before .before .loop .inv) _ _ ((word-here (c .before .before .before .before .before .before .before .before .before .args .words .now) _ _ _ (sym (c .before .before .before .before .before .element-of .ensures) ∙ c .before .before .before .step .given .1)) .here) (sym (c .before .spelt-size .ensures) ∙ c .if1 .taken)
+returns-2 c =
+    let s4 = c .before .before .before .before in
+    let s6 = s4 .before .before in
+    let s8 = s6 .before .before in
+    let s10 = s8 .before .before in
+    let a = s10 .args in
+    let i = s8 .loop in
+    let h = word-here (a .words .now) _ _ _ (sym (s6 .element-of .ensures) ∙ s4 .meant .given .1) in
+    c .not-held2 .ensures ∙ spelt-ten words-read (spellElement (a .form)) (spelt-short (a .form)) (a .words .now) (i .inv) (h .here)
+    (c .before .before .spelt-size .ensures) (c .before .if1 .taken)
 
 add-n : tie.Need-add-n Inv-loop μ-loop
-add-n c = omega (arith, small (spellHead (c .before .before .before .before .before .before .before .before .before .args .form)) (Writes (c .before .before .before .before .before .before .before .before .before .args .form)) (writer-reads (c .before .before .before .before .before .before .before .before .before .args .form)) same (c .before .before .before .before .before .before .before .before .before .args .words .now) _ _ _ (c .before .before .before .before .before .before .before .loop .inv), c .before .before .before .before .before .before .before .before .before .pre)
+add-n c =
+    let s7 = c .before .before .before .before .before .before .before in
+    let s9 = s7 .before .before in
+    let a = s9 .args in
+    omega (arith, spelt-small words-read (spellElement (a .form)) (spelt-short (a .form)) (a .words .now) (s7 .loop .inv), s9 .pre)
 
 add-count : tie.Need-add-count Inv-loop μ-loop
-add-count c = omega (arith, small (spellHead (c .before .before .before .before .before .before .before .before .before .args .form)) (Writes (c .before .before .before .before .before .before .before .before .before .args .form)) (writer-reads (c .before .before .before .before .before .before .before .before .before .args .form)) same (c .before .before .before .before .before .before .before .before .before .args .words .now) _ _ _ (c .before .before .before .before .before .before .before .loop .inv), c .before .before .before .before .before .before .before .before .before .pre, spelt-short (c .before .before .before .before .before .before .before .before .before .args .form) (c .before .before .before .step .given .0 .0), c .before .spelt-size .ensures)
+add-count c =
+    let s3 = c .before .before .before in
+    let s7 = s3 .before .before .before .before in
+    let s9 = s7 .before .before in
+    let a = s9 .args in
+    let small = spelt-small words-read (spellElement (a .form)) (spelt-short (a .form)) (a .words .now) (s7 .loop .inv) in
+    let e = s3 .meant .given .0 .0 in
+    omega (arith, small, s9 .pre, spelt-short (a .form) e, c .before .spelt-size .ensures)
 
 loop-less : tie.Need-loop-less Inv-loop μ-loop
 loop-less c =
-    let h = word-here (c .before .before .before .before .before .before .before .before .before .args .words .now) _ _ _ (sym (c .before .before .before .before .before .element-of .ensures) ∙ c .before .before .before .step .given .1) in
-    omega (arith, measure-onward (spellHead (c .before .before .before .before .before .before .before .before .before .args .form)) (Writes (c .before .before .before .before .before .before .before .before .before .args .form)) (writer-reads (c .before .before .before .before .before .before .before .before .before .args .form)) same (c .before .before .before .before .before .before .before .before .before .args .words .now) _ _ _ (c .before .before .before .before .before .before .before .loop .inv) _ _ (write-here (c .before .before .before .before .before .before .before .before .before .args .form) (c .before .before .before .before .before .before .before .before .before .args .words .now) (c .before .before .before .before .before .before .before .loop .at) (h .size) (c .before .before .before .step .given .0 .0) (h .here) (λ z. c .if1 .left (c .before .spelt-size .ensures ∙ z))), h .onward)
+    let s3 = c .before .before .before in
+    let s5 = s3 .before .before in
+    let s7 = s5 .before .before in
+    let s9 = s7 .before .before in
+    let a = s9 .args in
+    let i = s7 .loop in
+    let h = word-here (a .words .now) _ _ _ (sym (s5 .element-of .ensures) ∙ s3 .meant .given .1) in
+    let on =
+    spelt-onward words-read (spellElement (a .form)) (spelt-short (a .form)) (a .words .now) (i .inv) (h .here)
+    (c .before .spelt-size .ensures) (c .if1 .left) in
+    omega (arith, on, h .onward)
 
 loop-again : tie.Need-loop-again Inv-loop μ-loop
 loop-again c =
-    let h = word-here (c .before .before .before .before .before .before .before .before .before .args .words .now) _ _ _ (sym (c .before .before .before .before .before .element-of .ensures) ∙ c .before .before .before .step .given .1) in
-    measure-turn (spellHead (c .before .before .before .before .before .before .before .before .before .args .form)) (Writes (c .before .before .before .before .before .before .before .before .before .args .form)) (writer-reads (c .before .before .before .before .before .before .before .before .before .args .form)) same (c .before .before .before .before .before .before .before .before .before .args .words .now) _ _ _ (c .before .before .before .before .before .before .before .loop .inv) _ _ _ _ (write-here (c .before .before .before .before .before .before .before .before .before .args .form) (c .before .before .before .before .before .before .before .before .before .args .words .now) (c .before .before .before .before .before .before .before .loop .at) (h .size) (c .before .before .before .step .given .0 .0) (h .here) (λ z. c .if1 .left (c .before .spelt-size .ensures ∙ z))) (h .onward) (c .before .spelt-size .ensures)
-    (omega (arith, spelt-short (c .before .before .before .before .before .before .before .before .before .args .form) (c .before .before .before .step .given .0 .0), c .before .spelt-size .ensures))
+    let s3 = c .before .before .before in
+    let s5 = s3 .before .before in
+    let s7 = s5 .before .before in
+    let s9 = s7 .before .before in
+    let a = s9 .args in
+    let i = s7 .loop in
+    let h = word-here (a .words .now) _ _ _ (sym (s5 .element-of .ensures) ∙ s3 .meant .given .1) in
+    spelt-turn words-read (spellElement (a .form)) (spelt-short (a .form)) (a .words .now) (i .inv) (h .here)
+    (c .before .spelt-size .ensures) (h .onward) (c .if1 .left)
 
 returns-3 : tie.Need-returns-3 Inv-loop μ-loop
-returns-3 c = measured-all (spellHead (c .before .before .before .args .form)) (Writes (c .before .before .before .args .form)) (writer-reads (c .before .before .before .args .form)) same (c .before .before .before .args .words .now) _ _ _ (c .before .loop .inv) (c .loop-test .left)
+returns-3 c =
+    let a = c .before .before .before .args in
+    spelt-end words-read (spellElement (a .form)) (spelt-short (a .form)) (a .words .now) (c .before .loop .inv) (c .loop-test .left)
 
 pub measure-write-spec : {M : Type 1} → statement M
 measure-write-spec =
@@ -67,10 +117,11 @@ measure-write-spec =
     μ-loop
     loop-holds
     element-of-requires
-    enum-known-step
-    refusal-requires
+    enum-known-meant
+    not-held-requires
     returns
     spelt-size-requires
+    not-held-requires-2
     returns-2
     add-n
     add-count

@@ -1,8 +1,13 @@
-use mathlib.Core.Path.{sym, _∙_}
+-- `page_elements` meets its contract: the page stands where the lengths before it end (`page-is`), and is answered as a text (`the-page`).
+use Prim.Native.Nat.{ℕ, _+_, _*_, _≤_}
+use mathlib.Core.Path.{_≡_, sym, ap, _∙_}
 use native.Mathlib.Omega.{arith}
-use Rattle.tlx.proofs.Headers.{right-header}
-use Rattle.tlx.proofs.OnePage.{turned-page, no-page, page-inside, the-page}
+use lib.ListN.{length}
 use borrow.Author.Needs.{needs}
+use Rattle.case_table.specs.declared.Header.the-variants.{Pages}
+use Rattle.case_table.specs.Check.{headerOf}
+use Rattle.case_table.proofs.Standing.{Right, right-header, totalBefore, summed-before, page-inside}
+use Rattle.tlx.proofs.OnePage.{turned-page, no-page, the-page}
 use Rattle.tlx.proofs.page_elements.Statement.{statement}
 use Rattle.tlx.proofs.page_elements.Tie as tie
 
@@ -12,56 +17,95 @@ header-of-requires c κs = search needs
 enum-known-header : tie.Need-enum-known-header
 enum-known-header c = search needs
 
-bare-refusal-requires : tie.Need-bare-refusal-requires
-bare-refusal-requires c κs = search needs
+bare-answer-requires : tie.Need-bare-answer-requires
+bare-answer-requires c κs = search needs
 
 enum-known-header-2 : tie.Need-enum-known-header-2
 enum-known-header-2 c = search needs
 
+-- header and table are right
+the-header : (c : tie.After-known-told2) → headerOf (c .before .before .before .before .before .args .case .now) ≡ Pages (c .before .header2 .given .0 .0) (c .before .header2 .given .0 .1 .0)
+the-header c = sym (c .before .before .before .header-of .ensures) ∙ c .before .header2 .given .1
+
+right : (c : tie.After-known-told2) → Right (c .before .before .before .before .before .args .case .now) (c .before .header2 .given .0 .0) (c .before .header2 .given .0 .1 .0)
+right c = right-header _ _ _ (the-header c)
+
+-- where the page begins
+begins : (c : tie.After-total-of) →
+    let k = c .before .before .before in
+    let a = k .before .before .before .before .before .args in
+    let pages = k .before .header2 .given .0 .1 .0 in
+    8 + 2 * pages + c .total-of .result ≡ 8 + 2 * pages + totalBefore (a .case .now) (a .page)
+begins c =
+    let k = c .before .before .before in
+    let pages = k .before .header2 .given .0 .1 .0 in
+    let few : k .before .before .before .before .before .args .page ≤ 256 = omega (arith, right k .few, c .before .before .if1 .left) in
+    ap (λ (n : ℕ). 8 + 2 * pages + n) (summed-before (k .before .before .before .before .before .args .case .now) few (c .total-of .ensures .0))
+
+inside : (c : tie.After-number-at) →
+    let k = c .before .before .before .before in
+    8 + 2 * k .before .header2 .given .0 .1 .0 + c .before .total-of .result + c .number-at .result ≤ length (k .before .before .before .before .before .args .case .now)
+inside c =
+    page-inside (right (c .before .before .before .before)) (c .before .before .before .if1 .left) (begins (c .before)) (c .number-at .ensures .0)
+
 returns : tie.Need-returns
-returns c = no-page (c .before .before .before .before .before .before .args .case .now) _ _ _ (sym (c .before .before .before .before .header-of .ensures) ∙ c .before .before .header2 .given .1) (c .if1 .taken)
+returns c = no-page _ _ _ _ (the-header (c .before)) (c .if1 .taken)
 
 mul-start : tie.Need-mul-start
-mul-start c = omega (arith, right-header _ _ _ (sym (c .before .before .before .before .header-of .ensures) ∙ c .before .before .header2 .given .1) .few)
+mul-start c = omega (arith, right (c .before) .few)
 
 add-start : tie.Need-add-start
-add-start c = omega (arith, right-header _ _ _ (sym (c .before .before .before .before .header-of .ensures) ∙ c .before .before .header2 .given .1) .few)
+add-start c = omega (arith, right (c .before) .few)
+
+sub-total-of : tie.Need-sub-total-of
+sub-total-of c = omega (arith, right (c .before) .size)
+
+part-total-of-start : tie.Need-part-total-of-start
+part-total-of-start c = omega (arith, right (c .before) .size)
+
+part-total-of-end : tie.Need-part-total-of-end
+part-total-of-end c = search needs
 
 total-of-requires : tie.Need-total-of-requires
-total-of-requires c κs = omega (arith, right-header _ _ _ (sym (c .before .before .before .before .header-of .ensures) ∙ c .before .before .header2 .given .1) .few, right-header _ _ _ (sym (c .before .before .before .before .header-of .ensures) ∙ c .before .before .header2 .given .1) .size)
+total-of-requires c κs = search needs
 
 add-start-2 : tie.Need-add-start-2
-add-start-2 c = omega (arith, right-header _ _ _ (sym (c .before .before .before .before .before .header-of .ensures) ∙ c .before .before .before .header2 .given .1) .few, c .total-of .ensures .1)
+add-start-2 c = omega (arith, right (c .before .before .before) .few, c .total-of .ensures .2)
 
 mul-number-at : tie.Need-mul-number-at
-mul-number-at c = omega (arith, right-header _ _ _ (sym (c .before .before .before .before .before .header-of .ensures) ∙ c .before .before .before .header2 .given .1) .few)
+mul-number-at c = omega (arith, right (c .before .before .before) .few)
 
 add-number-at : tie.Need-add-number-at
-add-number-at c = omega (arith, right-header _ _ _ (sym (c .before .before .before .before .before .header-of .ensures) ∙ c .before .before .before .header2 .given .1) .few)
+add-number-at c = omega (arith, right (c .before .before .before) .few)
 
 number-at-requires : tie.Need-number-at-requires
-number-at-requires c κs = omega (arith, right-header _ _ _ (sym (c .before .before .before .before .before .header-of .ensures) ∙ c .before .before .before .header2 .given .1) .few, right-header _ _ _ (sym (c .before .before .before .before .before .header-of .ensures) ∙ c .before .before .before .header2 .given .1) .size)
+number-at-requires c κs = search needs
 
 add-end : tie.Need-add-end
-add-end c = omega (arith, right-header _ _ _ (sym (c .before .before .before .before .before .before .header-of .ensures) ∙ c .before .before .before .before .header2 .given .1) .few, c .before .total-of .ensures .1, c .number-at .ensures .1)
+add-end c = omega (arith, right (c .before .before .before .before) .few, c .before .total-of .ensures .2, c .number-at .ensures .1)
 
 sub-measure : tie.Need-sub-measure
-sub-measure c = omega (arith, page-inside (c .before .before .before .before .before .before .before .before .args .case .now) _ _ _ (sym (c .before .before .before .before .before .before .header-of .ensures) ∙ c .before .before .before .before .header2 .given .1) (c .before .before .if1 .left) _ _ (c .before .total-of .ensures) (c .number-at .ensures))
+sub-measure c = omega (arith, inside c)
 
 part-measure-start : tie.Need-part-measure-start
-part-measure-start c = omega (arith, page-inside (c .before .before .before .before .before .before .before .before .args .case .now) _ _ _ (sym (c .before .before .before .before .before .before .header-of .ensures) ∙ c .before .before .before .before .header2 .given .1) (c .before .before .if1 .left) _ _ (c .before .total-of .ensures) (c .number-at .ensures))
+part-measure-start c = omega (arith, inside c)
 
 part-measure-end : tie.Need-part-measure-end
-part-measure-end c = omega (arith, page-inside (c .before .before .before .before .before .before .before .before .args .case .now) _ _ _ (sym (c .before .before .before .before .before .before .header-of .ensures) ∙ c .before .before .before .before .header2 .given .1) (c .before .before .if1 .left) _ _ (c .before .total-of .ensures) (c .number-at .ensures))
+part-measure-end c = omega (arith, inside c)
 
 measure-requires : tie.Need-measure-requires
 measure-requires c κs = search needs
 
 returns-2 : tie.Need-returns-2
-returns-2 c = turned-page (c .before .before .before .before .before .before .args .case .now) _ _ _ (sym (c .before .before .before .before .header-of .ensures) ∙ c .before .before .header .given .1) (c .bare-refusal .ensures)
+returns-2 c =
+    let h = c .before .before in
+    turned-page _ _ _ _ (sym (h .before .before .header-of .ensures) ∙ h .header .given .1) (c .bare-answer .ensures)
 
 returns-3 : tie.Need-returns-3
-returns-3 c = the-page (c .before .before .before .before .before .before .before .before .before .before .args .case .now) _ _ _ (sym (c .before .before .before .before .before .before .before .before .header-of .ensures) ∙ c .before .before .before .before .before .before .header2 .given .1) (c .before .before .before .before .if1 .left) _ _ (c .before .before .before .total-of .ensures) (c .before .before .number-at .ensures) _ (c .measure .ensures)
+returns-3 c =
+    let num = c .before .before in
+    let told = num .before .before .before .before in
+    the-page _ _ _ _ (the-header told) _ _ (num .before .before .before .if1 .left) (begins (num .before)) (num .number-at .ensures .0) _ (c .measure .ensures)
 
 pub page-elements-spec : {M : Type 1} → statement M
 page-elements-spec =
@@ -69,11 +113,14 @@ page-elements-spec =
     (tie.spec
     header-of-requires
     enum-known-header
-    bare-refusal-requires
+    bare-answer-requires
     enum-known-header-2
     returns
     mul-start
     add-start
+    sub-total-of
+    part-total-of-start
+    part-total-of-end
     total-of-requires
     add-start-2
     mul-number-at

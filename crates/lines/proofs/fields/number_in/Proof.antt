@@ -13,7 +13,7 @@ abbrev μ-loop : tie.MeasureT-loop
 μ-loop text n₀ i₀ n i = length text - i
 
 loop-holds : tie.Need-loop-holds Inv-loop μ-loop
-loop-holds c = tt
+loop-holds c = search needs
 
 shared-slice-read-with-digit : tie.Need-shared-slice-read-with-digit Inv-loop μ-loop
 shared-slice-read-with-digit c = search needs
@@ -28,10 +28,11 @@ loop-less : tie.Need-loop-less Inv-loop μ-loop
 loop-less c = search needs
 
 loop-again : tie.Need-loop-again Inv-loop μ-loop
-loop-again c = tt
+loop-again c = search needs
 
 returns : tie.Need-returns Inv-loop μ-loop
 returns c = search needs
 
 pub number-in-spec : {M : Type 1} → statement M
-number-in-spec = tie.close (tie.spec Inv-loop μ-loop loop-holds shared-slice-read-with-digit with-digit-requires add-i loop-less loop-again returns)
+number-in-spec = tie.close (tie.spec Inv-loop μ-loop loop-holds shared-slice-read-with-digit with-digit-requires add-i loop-less
+    loop-again returns)

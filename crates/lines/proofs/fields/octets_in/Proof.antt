@@ -48,4 +48,5 @@ returns-2 : tie.Need-returns-2 Inv-loop μ-loop
 returns-2 c = counted _ _ (search needs)
 
 pub octets-in-spec : {M : Type 1} → statement M
-octets-in-spec = tie.close (tie.spec Inv-loop μ-loop loop-holds same-length returns mul-octet-at octet-at-requires slice-write-out add-i loop-less loop-again same-length-2 returns-2)
+octets-in-spec = tie.close (tie.spec Inv-loop μ-loop loop-holds same-length returns mul-octet-at octet-at-requires slice-write-out add-i
+    loop-less loop-again same-length-2 returns-2)

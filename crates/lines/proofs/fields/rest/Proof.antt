@@ -40,4 +40,5 @@ returns : tie.Need-returns Inv-loop μ-loop
 returns c = search needs
 
 pub rest-spec : {M : Type 1} → statement M
-rest-spec = tie.close (tie.spec Inv-loop μ-loop loop-holds after-comma-requires add-i loop-less loop-again sub-result part-result-start part-result-end returns)
+rest-spec = tie.close (tie.spec Inv-loop μ-loop loop-holds after-comma-requires add-i loop-less loop-again sub-result part-result-start
+    part-result-end returns)

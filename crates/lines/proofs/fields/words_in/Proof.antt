@@ -57,4 +57,5 @@ returns-2 : tie.Need-returns-2 Inv-loop μ-loop
 returns-2 c = counted _ _ (search needs)
 
 pub words-in-spec : {M : Type 1} → statement M
-words-in-spec = tie.close (tie.spec Inv-loop μ-loop loop-holds same-length returns part-requires number-in-requires mul-out slice-write-out add-at add-at-2 add-n loop-less loop-again same-length-2 returns-2)
+words-in-spec = tie.close (tie.spec Inv-loop μ-loop loop-holds same-length returns part-requires number-in-requires mul-out
+    slice-write-out add-at add-at-2 add-n loop-less loop-again same-length-2 returns-2)

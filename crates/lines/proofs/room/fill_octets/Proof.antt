@@ -38,4 +38,5 @@ returns : tie.Need-returns Inv-loop μ-loop
 returns c = search needs
 
 pub fill-octets-spec : {M : Type 1} → statement M
-fill-octets-spec = tie.close (tie.spec Inv-loop μ-loop loop-holds octet-before-requires slice-write-room add-i loop-less loop-again same-length returns)
+fill-octets-spec = tie.close (tie.spec Inv-loop μ-loop loop-holds octet-before-requires slice-write-room add-i loop-less loop-again
+    same-length returns)

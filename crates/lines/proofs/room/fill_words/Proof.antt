@@ -41,4 +41,5 @@ returns : tie.Need-returns Inv-loop μ-loop
 returns c = search needs
 
 pub fill-words-spec : {M : Type 1} → statement M
-fill-words-spec = tie.close (tie.spec Inv-loop μ-loop loop-holds word-before-requires mul-room slice-write-room add-i loop-less loop-again same-length returns)
+fill-words-spec = tie.close (tie.spec Inv-loop μ-loop loop-holds word-before-requires mul-room slice-write-room add-i loop-less
+    loop-again same-length returns)

@@ -13,7 +13,7 @@ abbrev μ-loop : tie.MeasureT-loop
 μ-loop room from i₀ i = length room - i
 
 loop-holds : tie.Need-loop-holds Inv-loop μ-loop
-loop-holds c = tt
+loop-holds c = search needs
 
 shared-slice-read-if1 : tie.Need-shared-slice-read-if1 Inv-loop μ-loop
 shared-slice-read-if1 c = search needs
@@ -31,10 +31,11 @@ loop-less : tie.Need-loop-less Inv-loop μ-loop
 loop-less c = search needs
 
 loop-again : tie.Need-loop-again Inv-loop μ-loop
-loop-again c = tt
+loop-again c = search needs
 
 returns-2 : tie.Need-returns-2 Inv-loop μ-loop
 returns-2 c = search needs
 
 pub keeps-octets-spec : {M : Type 1} → statement M
-keeps-octets-spec = tie.close (tie.spec Inv-loop μ-loop loop-holds shared-slice-read-if1 octet-before-requires returns add-i loop-less loop-again returns-2)
+keeps-octets-spec = tie.close (tie.spec Inv-loop μ-loop loop-holds shared-slice-read-if1 octet-before-requires returns add-i loop-less
+    loop-again returns-2)

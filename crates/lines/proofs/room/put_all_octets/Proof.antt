@@ -38,4 +38,5 @@ returns : tie.Need-returns Inv-loop μ-loop
 returns c = search needs
 
 pub put-all-octets-spec : {M : Type 1} → statement M
-put-all-octets-spec = tie.close (tie.spec Inv-loop μ-loop loop-holds shared-slice-read-put-octet put-octet-requires add-i loop-less loop-again same-length returns)
+put-all-octets-spec = tie.close (tie.spec Inv-loop μ-loop loop-holds shared-slice-read-put-octet put-octet-requires add-i loop-less
+    loop-again same-length returns)

@@ -41,4 +41,5 @@ returns : tie.Need-returns Inv-loop μ-loop
 returns c = search needs
 
 pub put-all-words-spec : {M : Type 1} → statement M
-put-all-words-spec = tie.close (tie.spec Inv-loop μ-loop loop-holds mul-put-further shared-slice-read-put-further put-further-requires add-i loop-less loop-again same-length returns)
+put-all-words-spec = tie.close (tie.spec Inv-loop μ-loop loop-holds mul-put-further shared-slice-read-put-further put-further-requires
+    add-i loop-less loop-again same-length returns)

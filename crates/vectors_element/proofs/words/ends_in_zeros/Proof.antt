@@ -15,7 +15,7 @@ size-of-requires : tie.Need-size-of-requires Inv-loop μ-loop
 size-of-requires c κs = search needs
 
 loop-holds : tie.Need-loop-holds Inv-loop μ-loop
-loop-holds c = tt
+loop-holds c = search needs
 
 part-at-requires : tie.Need-part-at-requires Inv-loop μ-loop
 part-at-requires c κs = search needs
@@ -30,10 +30,11 @@ loop-less : tie.Need-loop-less Inv-loop μ-loop
 loop-less c = search needs
 
 loop-again : tie.Need-loop-again Inv-loop μ-loop
-loop-again c = tt
+loop-again c = search needs
 
 returns-2 : tie.Need-returns-2 Inv-loop μ-loop
 returns-2 c = search needs
 
 pub ends-in-zeros-spec : {M : Type 1} → statement M
-ends-in-zeros-spec = tie.close (tie.spec Inv-loop μ-loop size-of-requires loop-holds part-at-requires returns add-k loop-less loop-again returns-2)
+ends-in-zeros-spec = tie.close (tie.spec Inv-loop μ-loop size-of-requires loop-holds part-at-requires returns add-k loop-less loop-again
+    returns-2)

@@ -38,4 +38,5 @@ returns : tie.Need-returns Inv-loop μ-loop
 returns c = search needs
 
 pub put-parts-spec : {M : Type 1} → statement M
-put-parts-spec = tie.close (tie.spec Inv-loop μ-loop size-of-requires loop-holds put-part-requires add-k loop-less loop-again same-length returns)
+put-parts-spec = tie.close (tie.spec Inv-loop μ-loop size-of-requires loop-holds put-part-requires add-k loop-less loop-again
+    same-length returns)

@@ -16,7 +16,7 @@ returns : tie.Need-returns Inv-loop μ-loop
 returns c = search needs
 
 loop-holds : tie.Need-loop-holds Inv-loop μ-loop
-loop-holds c = tt
+loop-holds c = search needs
 
 mul-if2 : tie.Need-mul-if2 Inv-loop μ-loop
 mul-if2 c = search needs
@@ -58,10 +58,12 @@ loop-less : tie.Need-loop-less Inv-loop μ-loop
 loop-less c = search needs
 
 loop-again : tie.Need-loop-again Inv-loop μ-loop
-loop-again c = tt
+loop-again c = search needs
 
 returns-3 : tie.Need-returns-3 Inv-loop μ-loop
 returns-3 c = search needs
 
 pub compare-words-spec : {M : Type 1} → statement M
-compare-words-spec = tie.close (tie.spec Inv-loop μ-loop returns loop-holds mul-if2 shared-slice-read-if2 mul-word-of shared-slice-read-word-of word-of-requires mul-is-listed shared-slice-read-is-listed mul-is-listed-2 shared-slice-read-is-listed-2 is-listed-requires returns-2 add-i loop-less loop-again returns-3)
+compare-words-spec = tie.close (tie.spec Inv-loop μ-loop returns loop-holds mul-if2 shared-slice-read-if2 mul-word-of
+    shared-slice-read-word-of word-of-requires mul-is-listed shared-slice-read-is-listed mul-is-listed-2 shared-slice-read-is-listed-2
+    is-listed-requires returns-2 add-i loop-less loop-again returns-3)

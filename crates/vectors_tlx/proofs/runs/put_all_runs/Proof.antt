@@ -59,4 +59,5 @@ returns : tie.Need-returns Inv-loop μ-loop
 returns c = search needs
 
 pub put-all-runs-spec : {M : Type 1} → statement M
-put-all-runs-spec = tie.close (tie.spec Inv-loop μ-loop loop-holds mul-put-run mul-put-run-2 shared-slice-read-put-run mul-put-run-3 add-put-run mul-put-run-4 shared-slice-read-put-run-2 cast-put-run put-run-requires add-i loop-less loop-again same-length returns)
+put-all-runs-spec = tie.close (tie.spec Inv-loop μ-loop loop-holds mul-put-run mul-put-run-2 shared-slice-read-put-run mul-put-run-3
+    add-put-run mul-put-run-4 shared-slice-read-put-run-2 cast-put-run put-run-requires add-i loop-less loop-again same-length returns)

@@ -44,4 +44,5 @@ returns : tie.Need-returns Inv-loop μ-loop
 returns c = search needs
 
 pub put-runs-spec : {M : Type 1} → statement M
-put-runs-spec = tie.close (tie.spec Inv-loop μ-loop loop-holds run-end-requires sub-put-further mul-put-further shared-slice-read-put-further put-further-requires loop-less loop-again same-length returns)
+put-runs-spec = tie.close (tie.spec Inv-loop μ-loop loop-holds run-end-requires sub-put-further mul-put-further
+    shared-slice-read-put-further put-further-requires loop-less loop-again same-length returns)

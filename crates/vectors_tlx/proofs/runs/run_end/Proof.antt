@@ -46,4 +46,5 @@ returns-2 : tie.Need-returns-2 Inv-loop μ-loop
 returns-2 c = search needs
 
 pub run-end-spec : {M : Type 1} → statement M
-run-end-spec = tie.close (tie.spec Inv-loop μ-loop mul-word shared-slice-read-word add-i loop-holds mul-if1 shared-slice-read-if1 returns add-i-2 loop-less loop-again returns-2)
+run-end-spec = tie.close (tie.spec Inv-loop μ-loop mul-word shared-slice-read-word add-i loop-holds mul-if1 shared-slice-read-if1
+    returns add-i-2 loop-less loop-again returns-2)

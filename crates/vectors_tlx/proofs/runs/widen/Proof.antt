@@ -51,4 +51,5 @@ returns-2 : tie.Need-returns-2 Inv-loop μ-loop
 returns-2 c = search needs
 
 pub widen-spec : {M : Type 1} → statement M
-widen-spec = tie.close (tie.spec Inv-loop μ-loop loop-holds same-length returns shared-slice-read-out cast-out mul-out slice-write-out add-i loop-less loop-again same-length-2 returns-2)
+widen-spec = tie.close (tie.spec Inv-loop μ-loop loop-holds same-length returns shared-slice-read-out cast-out mul-out slice-write-out
+    add-i loop-less loop-again same-length-2 returns-2)

@@ -1,0 +1,5 @@
+mod Lengths
+mod Headers
+pub mod Checked
+pub mod Standing
+pub mod Laid

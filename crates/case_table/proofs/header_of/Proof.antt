@@ -1,0 +1,50 @@
+-- `header_of` meets its contract: `header_in` of the case's parts (`header-parts`); a case too short to have a header is refused by its size (`case-short`).
+use mathlib.Core.Path.{sym, ap, _∙_}
+use mathlib.Core.List.{List}
+use Prim.Native.Nat.{ℕ, _-_}
+use native.Mathlib.Omega.{arith}
+use lib.ListN.{length, take, drop, length-drop}
+use lib.Seq.{take-all, length-take-le}
+use borrow.Author.Needs.{needs}
+use Rattle.case_table.specs.Layout.{version-1}
+use Rattle.case_table.specs.Check.{headerIn}
+use Rattle.case_table.proofs.Headers.{header-parts, case-short}
+use Rattle.case_table.proofs.header_of.Statement.{statement}
+use Rattle.case_table.proofs.header_of.Tie as tie
+
+returns : tie.Need-returns
+returns c = case-short _ (c .if1 .taken)
+
+slice-aggregate-header-in : tie.Need-slice-aggregate-header-in
+slice-aggregate-header-in c = sym (length-take-le 8 (c .before .before .before .args .case .now) (omega arith))
+
+sub-header-in : tie.Need-sub-header-in
+sub-header-in c = search needs
+
+part-header-in-start : tie.Need-part-header-in-start
+part-header-in-start c = search needs
+
+part-header-in-end : tie.Need-part-header-in-end
+part-header-in-end c = search needs
+
+header-in-requires : tie.Need-header-in-requires
+header-in-requires c κs = search needs
+
+returns-2 : tie.Need-returns-2
+returns-2 c =
+    let case = c .before .before .before .before .before .args .case .now in
+    c .header-in .ensures
+    ∙ ap (λ (l : List ℕ). headerIn version-1 (take 8 case) l (length case)) (take-all (length case - 8) (drop 8 case) (omega (arith, length-drop 8 case)))
+    ∙ header-parts case
+
+pub header-of-spec : {M : Type 1} → statement M
+header-of-spec =
+    tie.close
+    (tie.spec
+    returns
+    slice-aggregate-header-in
+    sub-header-in
+    part-header-in-start
+    part-header-in-end
+    header-in-requires
+    returns-2)

@@ -1,0 +1,3 @@
+mod Parts
+mod WaysOut
+pub mod Written

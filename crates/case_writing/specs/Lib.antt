@@ -1,0 +1,2 @@
+pub mod FromParts
+pub mod Table

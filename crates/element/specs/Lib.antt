@@ -1,4 +1,0 @@
-pub mod Words
-pub mod Grammar
-pub mod Reading
-pub mod Spelling

@@ -1,0 +1,6 @@
+pub mod Reader
+pub mod Deciding
+mod Steps
+pub mod Sizes
+pub mod Places
+pub mod OneAnswer

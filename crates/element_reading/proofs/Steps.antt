@@ -1,0 +1,150 @@
+-- What each way out of the code that reads an element rests on: the definition at a place of a text, by the octet there.
+-- Assumes nothing.
+use Prim.Native.Nat.{ℕ, _+_, _*_, _-_, _≤_, _<_}
+use mathlib.Core.Path.{_≡_, refl, sym, ap, ap₂, _∙_}
+use mathlib.Core.Bool.{Bool}
+use mathlib.Core.List.{List, _∷_}
+use native.Mathlib.Nat.{add-zero}
+use native.Mathlib.Omega.{arith}
+use lib.ListN.{length, getD, drop, drop-of-length-le}
+use Rattle.run.specs.Head.{Head, element, refused, none}
+use Rattle.run.proofs.FromPlace.{at-place}
+use Rattle.sorts.specs.declared.Form.{Form}
+use Rattle.sorts.specs.declared.Sort.{Sort}
+use Rattle.sorts.specs.declared.Sort.the-variants.{Refused}
+use Rattle.sorts.specs.declared.Found.{Found}
+use Rattle.sorts.specs.declared.Found.the-variants.{Char, Nothing}
+use Rattle.squares.specs.Squares.{squareOf}
+use Rattle.sorts.specs.Sorts.{sortIn, shiftedIn}
+use Rattle.element_words.specs.declared.Element.the-variants.{One, Sequence as SequenceOf}
+use Rattle.sequence_reading.specs.declared.Values.{Values}
+use Rattle.sequence_reading.specs.declared.Reading.the-variants.{Whole, Refused as Bad, End as NoMore}
+use Rattle.sequence_reading.specs.Grammar.{Sequence}
+use Rattle.sequence_reading.specs.Reading.{sequenceHead, valuesOf, readingOf, readingAt}
+use Rattle.sequence_reading.proofs.Reader.{read-eight}
+use Rattle.element_reading.specs.declared.Step.the-variants.{Element as Read, Refused as Stopped, End}
+use Rattle.element_words.specs.Words.{graphicWord, headWord}
+use Rattle.element_reading.specs.Reading.{highOr3, pairHead, followerHead, shiftedSort, shiftedHead, underlinedSort, underlinedHead, asElement, headSort, headIn, stepOf, stepAt}
+
+-- ---- a control sequence
+module _ (at : ℕ) where
+  whole-by : (h : Head Sequence) (m l n k w : ℕ) (vs : Values) → readingOf at h ≡ Whole m l n vs k → w ≡ 0x4000000 + 0x10000 * m + 0x100 * l + n → Read (SequenceOf w n vs) k ≡ stepOf at (asElement h)
+  whole-by (element q j) m l n k w vs e z =
+      let em : q .middle ≡ m = cc in
+      let el : q .last ≡ l = cc in
+      let en : length (q .values) ≡ n = cc in
+      let ev : valuesOf (q .values) ≡ vs = cc in
+      let ek : at + j ≡ k = cc in
+      let ew : w ≡ headWord q = omega arith in
+      cc
+  whole-by (refused r d) m l n k w vs e z = let y : _≡_ {A = ℕ} 0 1 = cc in absurd (omega arith)
+  whole-by none m l n k w vs e z = let y : _≡_ {A = ℕ} 0 1 = cc in absurd (omega arith)
+
+  stopped-by : (h : Head Sequence) (r d : ℕ) → readingOf at h ≡ Bad r d → Stopped r at d ≡ stepOf at (asElement h)
+  stopped-by (element q j) r d e = let y : _≡_ {A = ℕ} 0 1 = cc in absurd (omega arith)
+  stopped-by (refused r′ d′) r d e = let er : r′ ≡ r = cc in let ed : at + d′ ≡ d = cc in cc
+  stopped-by none r d e = let y : _≡_ {A = ℕ} 0 1 = cc in absurd (omega arith)
+
+  ended-by : (h : Head Sequence) → readingOf at h ≡ NoMore → End ≡ stepOf at (asElement h)
+  ended-by (element q j) e = let y : _≡_ {A = ℕ} 0 1 = cc in absurd (omega arith)
+  ended-by (refused r d) e = let y : _≡_ {A = ℕ} 0 1 = cc in absurd (omega arith)
+  ended-by none e = refl
+
+  count-by : (s : List ℕ) (h : Head Sequence) → sequenceHead s ≡ h → (m l n k : ℕ) (vs : Values) → readingOf at h ≡ Whole m l n vs k → n ≤ 8
+  count-by s (element q j) z m l n k vs e = let en : length (q .values) ≡ n = cc in omega (arith, read-eight s q j z)
+  count-by s (refused r d) z m l n k vs e = let y : _≡_ {A = ℕ} 0 1 = cc in absurd (omega arith)
+  count-by s none z m l n k vs e = let y : _≡_ {A = ℕ} 0 1 = cc in absurd (omega arith)
+
+  module _ (text : List ℕ) where
+    pub sequence-whole : (m l n k w : ℕ) (vs : Values) → readingAt text at ≡ Whole m l n vs k → w ≡ 0x4000000 + 0x10000 * m + 0x100 * l + n → Read (SequenceOf w n vs) k ≡ stepOf at (asElement (sequenceHead (drop at text)))
+    unfolding readingAt
+    sequence-whole m l n k w vs e z = whole-by (sequenceHead (drop at text)) m l n k w vs e z
+
+    pub sequence-count : (m l n k : ℕ) (vs : Values) → readingAt text at ≡ Whole m l n vs k → n ≤ 8
+    unfolding readingAt
+    sequence-count m l n k vs e = count-by (drop at text) (sequenceHead (drop at text)) refl m l n k vs e
+
+    pub sequence-stopped : (r d : ℕ) → readingAt text at ≡ Bad r d → Stopped r at d ≡ stepOf at (asElement (sequenceHead (drop at text)))
+    unfolding readingAt
+    sequence-stopped r d e = stopped-by (sequenceHead (drop at text)) r d e
+
+    pub sequence-ended : readingAt text at ≡ NoMore → End ≡ stepOf at (asElement (sequenceHead (drop at text)))
+    unfolding readingAt
+    sequence-ended e = ended-by (sequenceHead (drop at text)) e
+
+    -- from the element's first octet on
+    pub sequence-first : at < length text → stepOf at (asElement (sequenceHead (drop at text))) ≡ stepOf at (asElement (sequenceHead (getD text at 0 ∷ drop (at + 1) text)))
+    sequence-first h = ap (λ (l : List ℕ). stepOf at (asElement (sequenceHead l))) (at-place text at h)
+
+module _ (f : Form) (text : List ℕ) where
+  -- ---- a follower at i
+  module _ (m : ℕ) (u : Bool) (at i : ℕ) (le : at ≤ i) where
+    pub follower-end : length text ≤ i → Stopped 4 at i ≡ stepOf at (followerHead f m u (i - at) (drop i text))
+    unfolding followerHead
+    follower-end h = sym (ap (λ (l : List ℕ). stepOf at (followerHead f m u (i - at) l)) (drop-of-length-le text h) ∙ ap (Stopped 4 at) (omega arith))
+
+    follower-here : i < length text → stepOf at (followerHead f m u (i - at) (drop i text)) ≡ stepOf at (pairHead u (i - at) (squareOf m (getD text i 0)) (sortIn f (getD text i 0)))
+    unfolding followerHead
+    follower-here h = ap (λ (l : List ℕ). stepOf at (followerHead f m u (i - at) l)) (at-place text i h)
+
+    pub follower-not : (r : ℕ) → i < length text → squareOf m (getD text i 0) ≡ Nothing → r ≡ highOr3 (sortIn f (getD text i 0))
+        → Stopped r at i ≡ stepOf at (followerHead f m u (i - at) (drop i text))
+    follower-not r h e q =
+        let n : i ≡ at + (i - at) = omega arith in
+        ap₂ (λ (k : ℕ) (c : ℕ). Stopped k at c) q n
+        ∙ sym (follower-here h ∙ ap (λ (x : Found). stepOf at (pairHead u (i - at) x (sortIn f (getD text i 0)))) e)
+
+    pub follower-is : (c w : ℕ) → i < length text → squareOf m (getD text i 0) ≡ Char c → w ≡ graphicWord u c
+        → Read (One w) (i + 1) ≡ stepOf at (followerHead f m u (i - at) (drop i text))
+    follower-is c w h e q =
+        let n : i + 1 ≡ at + (i - at + 1) = omega arith in
+        ap₂ (λ (k : ℕ) (c : ℕ). Read (One k) c) q n
+        ∙ sym (follower-here h ∙ ap (λ (x : Found). stepOf at (pairHead u (i - at) x (sortIn f (getD text i 0)))) e)
+
+  -- ---- after SS2 and after CC
+  module _ (at : ℕ) where
+    pub shifted-end : length text ≤ at + 1 → Stopped 4 at (at + 1) ≡ stepOf at (shiftedHead f (drop (at + 1) text))
+    unfolding shiftedHead
+    shifted-end h = sym (ap (λ (l : List ℕ). stepOf at (shiftedHead f l)) (drop-of-length-le text h))
+
+    pub shifted-here : (s : Sort) → at + 1 < length text → shiftedIn f (getD text (at + 1) 0) ≡ s
+        → stepOf at (shiftedSort f s (drop (at + 2) text)) ≡ stepOf at (shiftedHead f (drop (at + 1) text))
+    unfolding shiftedHead
+    shifted-here s h e =
+        let n : at + 1 + 1 ≡ at + 2 = omega arith in
+        sym (ap (λ (l : List ℕ). stepOf at (shiftedHead f l)) (at-place text (at + 1) h)
+        ∙ ap₂ (λ (x : Sort) (k : ℕ). stepOf at (shiftedSort f x (drop k text))) e n)
+
+    pub underlined-end : length text ≤ at + 1 → Stopped 4 at (at + 1) ≡ stepOf at (underlinedHead f (drop (at + 1) text))
+    unfolding underlinedHead
+    underlined-end h = sym (ap (λ (l : List ℕ). stepOf at (underlinedHead f l)) (drop-of-length-le text h))
+
+    pub underlined-here : (s : Sort) → at + 1 < length text → sortIn f (getD text (at + 1) 0) ≡ s
+        → stepOf at (underlinedSort f s (drop (at + 2) text)) ≡ stepOf at (underlinedHead f (drop (at + 1) text))
+    unfolding underlinedHead
+    underlined-here s h e =
+        let n : at + 1 + 1 ≡ at + 2 = omega arith in
+        sym (ap (λ (l : List ℕ). stepOf at (underlinedHead f l)) (at-place text (at + 1) h)
+        ∙ ap₂ (λ (x : Sort) (k : ℕ). stepOf at (underlinedSort f x (drop k text))) e n)
+
+    -- the follower of a mark behind SS2 or CC
+    pub follower-second : (m : ℕ) (u : Bool) → stepOf at (followerHead f m u (at + 2 - at) (drop (at + 2) text)) ≡ stepOf at (followerHead f m u 2 (drop (at + 2) text))
+    follower-second m u = ap (λ (d : ℕ). stepOf at (followerHead f m u d (drop (at + 2) text))) (let n : at + 2 - at ≡ 2 = omega arith in n)
+
+    -- ---- at the element's first octet
+    pub none-left : length text ≤ at → End ≡ stepAt f text at
+    unfolding stepAt headIn
+    none-left h = sym (ap (λ (l : List ℕ). stepOf at (headIn f l)) (drop-of-length-le text h))
+
+    pub first-here : (s : Sort) → at < length text → sortIn f (getD text at 0) ≡ s
+        → stepOf at (headSort f s (getD text at 0) (drop (at + 1) text)) ≡ stepAt f text at
+    unfolding stepAt headIn
+    first-here s h e =
+        sym (ap (λ (l : List ℕ). stepOf at (headIn f l)) (at-place text at h)
+        ∙ ap (λ (x : Sort). stepOf at (headSort f x (getD text at 0) (drop (at + 1) text))) e)
+
+    pub follower-first : (m : ℕ) (u : Bool) → stepOf at (followerHead f m u (at + 1 - at) (drop (at + 1) text)) ≡ stepOf at (followerHead f m u 1 (drop (at + 1) text))
+    follower-first m u = ap (λ (d : ℕ). stepOf at (followerHead f m u d (drop (at + 1) text))) (let n : at + 1 - at ≡ 1 = omega arith in n)
+
+    pub refused-here : (n : ℕ) → at < length text → sortIn f (getD text at 0) ≡ Refused n → Stopped n at at ≡ stepAt f text at
+    refused-here n h e = ap (Stopped n at) (sym (add-zero at)) ∙ first-here (Refused n) h e

@@ -1,0 +1,79 @@
+-- The end (follower-end), a listed follower (follower-is), any other (follower-not).
+use mathlib.Core.Path.{sym, ap, _∙_}
+use Rattle.squares.proofs.SquareFacts.{square-small}
+use Rattle.element_reading.specs.Reading.{highOr3}
+use Rattle.element_reading.proofs.Steps.{follower-end, follower-not, follower-is}
+use borrow.Author.Needs.{needs}
+use Rattle.element_reading.proofs.follower_step.Statement.{statement}
+use Rattle.element_reading.proofs.follower_step.Tie as tie
+
+refused-at-requires : tie.Need-refused-at-requires
+refused-at-requires c κs = search needs
+
+returns : tie.Need-returns
+returns c = c .refused-at .ensures ∙ follower-end _ _ _ _ _ _ (c .before .before .before .pre .0) (c .before .if1 .taken)
+
+shared-slice-read-l : tie.Need-shared-slice-read-l
+shared-slice-read-l c = search needs
+
+paired-requires : tie.Need-paired-requires
+paired-requires c κs = search needs
+
+enum-known-found : tie.Need-enum-known-found
+enum-known-found c = search needs
+
+enum-told : tie.Need-enum-told
+enum-told c = search needs
+
+sort-in-requires : tie.Need-sort-in-requires
+sort-in-requires c κs = search needs
+
+high-or-3-requires : tie.Need-high-or-3-requires
+high-or-3-requires c κs = search needs
+
+refused-at-requires-2 : tie.Need-refused-at-requires-2
+refused-at-requires-2 c κs = search needs
+
+returns-2 : tie.Need-returns-2
+returns-2 c =
+    let at-sort-in = c .before .before in
+    let at-enum-told = at-sort-in .before in
+    let at-paired = at-enum-told .before .before in
+    let at-if1 = at-paired .before .before in
+    let at-pre = at-if1 .before .before in
+    c .refused-at2 .ensures ∙ follower-not _ _ _ _ _ _ (at-pre .pre .0) _ (at-if1 .if1 .left)
+    (sym (at-paired .paired .ensures) ∙ at-enum-told .enum-told .given .1)
+    (c .before .high-or-3 .ensures ∙ ap highOr3 (at-sort-in .sort-in .ensures))
+
+graphic-word-requires : tie.Need-graphic-word-requires
+graphic-word-requires c κs = square-small _ _ _ (sym (c .before .before .before .paired .ensures) ∙ c .before .found .given .1)
+
+add-t10 : tie.Need-add-t10
+add-t10 c = search needs
+
+returns-3 : tie.Need-returns-3
+returns-3 c =
+    let at-found = c .before .before in
+    let at-paired = at-found .before .before in
+    let at-if1 = at-paired .before .before in
+    let at-pre = at-if1 .before .before in
+    follower-is _ _ _ _ _ _ (at-pre .pre .0) _ _ (at-if1 .if1 .left) (sym (at-paired .paired .ensures) ∙ at-found .found .given .1)
+    (c .graphic-word .ensures)
+
+pub follower-step-spec : {M : Type 1} → statement M
+follower-step-spec =
+    tie.close
+    (tie.spec
+    refused-at-requires
+    returns
+    shared-slice-read-l
+    paired-requires
+    enum-known-found
+    enum-told
+    sort-in-requires
+    high-or-3-requires
+    refused-at-requires-2
+    returns-2
+    graphic-word-requires
+    add-t10
+    returns-3)

@@ -1,0 +1,112 @@
+-- Proved equal to the grammar (Reader: reads, refuses-exactly-by): what the reader of an element answers.
+-- Assumes nothing.
+use Prim.Native.Nat.{ℕ, _+_}
+use mathlib.Core.Bool.{Bool, true, false}
+use mathlib.Core.List.{List, [], _∷_}
+use lib.ListN.{length, drop}
+use lib.Dec.{eqb}
+use Rattle.run.specs.Choice.{pick}
+use Rattle.run.specs.Head.{Head, element, refused, none}
+use Rattle.run.specs.declared.Answer.{Answer}
+use Rattle.run.specs.Answers.{answer}
+use Rattle.sorts.specs.declared.Form.{Form}
+use Rattle.sorts.specs.declared.Sort.{Sort}
+use Rattle.sorts.specs.declared.Sort.the-variants.{Graphic, Mark, Underline, Shift, Control, SequenceStart, Refused}
+use Rattle.sorts.specs.declared.Found.{Found}
+use Rattle.sorts.specs.declared.Found.the-variants.{Char, Nothing}
+use Rattle.squares.specs.Squares.{squareOf}
+use Rattle.sorts.specs.Sorts.{sortIn, shiftedIn}
+use Rattle.sequence_reading.specs.Grammar.{Sequence}
+use Rattle.sequence_reading.specs.Reading.{sequenceHead}
+use Rattle.element_words.specs.declared.Element.{Element}
+use Rattle.element_words.specs.declared.Element.the-variants.{One}
+use Rattle.element_reading.specs.declared.Step.{Step}
+use Rattle.element_reading.specs.declared.Step.the-variants.{Element as Read, Refused as Stopped, End}
+use Rattle.element_words.specs.Words.{graphicWord, controlWord, sequenceElement, wordsOf}
+
+-- 5 for an octet of 80 or above in seven bits, else 3
+abbrev pub highOr3 : Sort → ℕ
+highOr3 (Graphic c) = 3
+highOr3 (Mark m) = 3
+highOr3 Underline = 3
+highOr3 Shift = 3
+highOr3 Control = 3
+highOr3 SequenceStart = 3
+highOr3 (Refused n) = pick (eqb n 5) 5 3
+
+-- a follower, d octets behind the element's first, that a mark has or has not
+abbrev pub pairHead : Bool → ℕ → Found → Sort → Head Element
+pairHead u d (Char c) s = element (One (graphicWord u c)) (d + 1)
+pairHead u d Nothing s = refused (highOr3 s) d
+
+-- what follows a mark
+unfoldable pub followerHead : Form → ℕ → Bool → ℕ → List ℕ → Head Element
+followerHead f m u d [] = refused 4 d
+followerHead f m u d (l ∷ t) = pairHead u d (squareOf m l) (sortIn f l)
+
+-- what follows SS2
+abbrev pub shiftedSort : Form → Sort → List ℕ → Head Element
+shiftedSort f (Graphic c) t = element (One (graphicWord false c)) 2
+shiftedSort f (Mark m) t = followerHead f m false 2 t
+shiftedSort f Underline t = refused 1 1
+shiftedSort f Shift t = refused 1 1
+shiftedSort f Control t = refused 1 1
+shiftedSort f SequenceStart t = refused 1 1
+shiftedSort f (Refused n) t = refused n 1
+
+unfoldable pub shiftedHead : Form → List ℕ → Head Element
+shiftedHead f [] = refused 4 1
+shiftedHead f (o ∷ t) = shiftedSort f (shiftedIn f o) t
+
+-- what follows CC
+abbrev pub underlinedSort : Form → Sort → List ℕ → Head Element
+underlinedSort f (Graphic c) t = element (One (graphicWord true c)) 2
+underlinedSort f (Mark m) t = followerHead f m true 2 t
+underlinedSort f Underline t = refused 3 1
+underlinedSort f Shift t = refused 3 1
+underlinedSort f Control t = refused 3 1
+underlinedSort f SequenceStart t = refused 3 1
+underlinedSort f (Refused n) t = refused (pick (eqb n 5) 5 3) 1
+
+unfoldable pub underlinedHead : Form → List ℕ → Head Element
+underlinedHead f [] = refused 4 1
+underlinedHead f (o ∷ t) = underlinedSort f (sortIn f o) t
+
+-- a control sequence as an element
+abbrev pub asElement : Head Sequence → Head Element
+asElement (element q k) = element (sequenceElement q) k
+asElement (refused r d) = refused r d
+asElement none = none
+
+abbrev pub headSort : Form → Sort → ℕ → List ℕ → Head Element
+headSort f (Graphic c) o t = element (One (graphicWord false c)) 1
+headSort f (Mark m) o t = followerHead f m false 1 t
+headSort f Underline o t = underlinedHead f t
+headSort f Shift o t = shiftedHead f t
+headSort f Control o t = element (One (controlWord o)) 1
+headSort f SequenceStart o t = asElement (sequenceHead (o ∷ t))
+headSort f (Refused n) o t = refused n 0
+
+-- what stands at the head of a list of octets
+unfoldable pub headIn : Form → List ℕ → Head Element
+headIn f [] = none
+headIn f (o ∷ t) = headSort f (sortIn f o) o t
+
+-- ---- the answer at a place
+
+abbrev pub stepOf : ℕ → Head Element → Step
+stepOf at (element e k) = Read e (at + k)
+stepOf at (refused r d) = Stopped r at (at + d)
+stepOf at none = End
+
+-- "Each element read answers with the element and the place after it, or with its refusal .. Asked at or past the end of the text, it
+-- answers that none is left."
+unfoldable pub stepAt : Form → List ℕ → ℕ → Step
+stepAt f text at = stepOf at (headIn f (drop at text))
+
+-- 01's number and values of each answer: an element read is one element, its place the place after it, its count its words; "A lone
+-- read's refusal has element 0"
+abbrev pub stepAnswer : Step → Answer
+stepAnswer (Read e next) = answer 0 1 next (length (wordsOf e))
+stepAnswer (Stopped r p c) = answer r 0 p c
+stepAnswer End = answer 0 0 0 0

@@ -1,0 +1,181 @@
+// One element, read at a place of a text in a form.
+use element_words::Element;
+use sequence_reading::Reading;
+use sorts::Form;
+use sorts::Found;
+use sorts::Sort;
+ghost use mathlib.Core.Path.{_≡_};
+ghost use Prim.Native.Nat.{_+_, _-_, _*_, _≤_, _<_};
+ghost use lib.ListN.{length, drop};
+ghost use Rattle.sequence_reading.specs.Reading.{sequenceHead};
+ghost use Rattle.element_words.specs.Words.{graphicWord};
+ghost use Rattle.element_reading.specs.declared.Step.the-variants.{Refused as Stopped};
+ghost use Rattle.element_reading.specs.Reading.{highOr3, followerHead, shiftedHead, underlinedHead, asElement, stepOf, stepAt};
+
+// What stands at a place.
+pub enum Step {
+    // the element, and the place after it
+    Element(Element, usize),
+    // why it is refused, the place of its first entry, and the deciding octet's
+    Refused {
+        number: usize,
+        place: usize,
+        count: usize,
+    },
+    // none is left
+    End,
+}
+
+// 01: "Graphic: its code point, plus 2^24 if underlined."
+fn graphic_word(under: bool, c: u32) -> u32
+    requires { ⌜ c < 0x10000 ⌝ }
+    ensures { λ r. ⌜ r ≡ graphicWord under c ⌝ }
+{
+    if under {
+        return 0x1000000 + c;
+    }
+    c
+}
+
+// The element at `place` is refused with a number; `count` is the deciding octet's place.
+fn refused_at(number: usize, place: usize, count: usize) -> Step
+    ensures { λ r. ⌜ r ≡ Stopped number place count ⌝ }
+{
+    Step::Refused {
+        number,
+        place,
+        count,
+    }
+}
+
+// 01: "at one octet 5 goes first"; else a follower that is not listed is 3.
+fn high_or_3(sort: Sort) -> usize
+    ensures { λ r. ⌜ r ≡ highOr3 sort ⌝ }
+{
+    match sort {
+        Sort::Graphic(_) => 3,
+        Sort::Mark(_) => 3,
+        Sort::Underline => 3,
+        Sort::Shift => 3,
+        Sort::Control => 3,
+        Sort::SequenceStart => 3,
+        Sort::Refused(n) => {
+            if n == 5 {
+                return 5;
+            }
+            3
+        }
+    }
+}
+
+// What follows a mark: the follower stands at `i` of the element that begins at `at`.
+fn follower_step(form: Form, mark: u8, under: bool, text: &[u8], at: usize, i: usize) -> Step
+    requires { ⌜ (at ≤ i) × (i ≤ length (now text)) ⌝ }
+    ensures { λ r. ⌜ r ≡ stepOf at (followerHead form mark under (i - at) (drop i (now (text .entry)))) ⌝ }
+{
+    if text.len() <= i {
+        return refused_at(4, at, i);
+    }
+    let l = text[i];
+    let found = squares::paired(mark, l);
+    let Found::Char(c) = found else {
+        return refused_at(high_or_3(sorts::sort_in(form, l)), at, i);
+    };
+    Step::Element(Element::One(graphic_word(under, c)), i + 1)
+}
+
+// What follows the SS2 at `at`. 01: SS2 stands "before the supplementary octet only; the letter of a pair follows bare".
+fn shift_step(form: Form, text: &[u8], at: usize) -> Step
+    requires { ⌜ at < length (now text) ⌝ }
+    ensures { λ r. ⌜ r ≡ stepOf at (shiftedHead form (drop (at + 1) (now (text .entry)))) ⌝ }
+{
+    let i = at + 1;
+    if text.len() <= i {
+        return refused_at(4, at, i);
+    }
+    let sort = sorts::sort_shifted(form, text[i]);
+    match sort {
+        Sort::Graphic(c) => Step::Element(Element::One(c), at + 2),
+        Sort::Mark(m) => follower_step(form, m, false, text, at, at + 2),
+        Sort::Underline => refused_at(1, at, i),
+        Sort::Shift => refused_at(1, at, i),
+        Sort::Control => refused_at(1, at, i),
+        Sort::SequenceStart => refused_at(1, at, i),
+        Sort::Refused(n) => refused_at(n, at, i),
+    }
+}
+
+// What follows the CC at `at`. 01: "CC stands before a spacing character, or before a mark with its follower."
+fn underline_step(form: Form, text: &[u8], at: usize) -> Step
+    requires { ⌜ at < length (now text) ⌝ }
+    ensures { λ r. ⌜ r ≡ stepOf at (underlinedHead form (drop (at + 1) (now (text .entry)))) ⌝ }
+{
+    let i = at + 1;
+    if text.len() <= i {
+        return refused_at(4, at, i);
+    }
+    let sort = sorts::sort_in(form, text[i]);
+    match sort {
+        Sort::Graphic(c) => Step::Element(Element::One(graphic_word(true, c)), at + 2),
+        Sort::Mark(m) => follower_step(form, m, true, text, at, at + 2),
+        Sort::Underline => refused_at(3, at, i),
+        Sort::Shift => refused_at(3, at, i),
+        Sort::Control => refused_at(3, at, i),
+        Sort::SequenceStart => refused_at(3, at, i),
+        Sort::Refused(n) => refused_at(high_or_3(Sort::Refused(n)), at, i),
+    }
+}
+
+// 01: "Sequence: 2^26 + 65536 x intermediate (0 if none) + 256 x final + number of values".
+fn head_word(middle: u8, last: u8, count: usize) -> u32
+    requires { ⌜ count ≤ 8 ⌝ }
+    ensures { λ r. ⌜ r ≡ 0x4000000 + 0x10000 * middle + 0x100 * last + count ⌝ }
+{
+    0x4000000 + 0x10000 * (middle as u32) + 0x100 * (last as u32) + count as u32
+}
+
+// The control sequence at `at`.
+fn sequence_step(text: &[u8], at: usize) -> Step
+    ensures { λ r. ⌜ r ≡ stepOf at (asElement (sequenceHead (drop at (now (text .entry))))) ⌝ }
+{
+    let reading = sequence_reading::read_sequence(text, at);
+    match reading {
+        Reading::Whole {
+            middle,
+            last,
+            count,
+            values,
+            next,
+        } => Step::Element(
+            Element::Sequence {
+                head: head_word(middle, last, count),
+                count,
+                values,
+            },
+            next,
+        ),
+        Reading::Refused { number, deciding } => refused_at(number, at, deciding),
+        Reading::End => Step::End,
+    }
+}
+
+// Reads the element at a place. 01: "Each element read answers with the element and the place after it, or with its refusal .. Asked at or
+// past the end of the text, it answers that none is left."
+pub fn element_at(form: Form, text: &[u8], at: usize) -> Step
+    ensures { λ r. ⌜ r ≡ stepAt form (now (text .entry)) at ⌝ }
+{
+    if text.len() <= at {
+        return Step::End;
+    }
+    let o = text[at];
+    let sort = sorts::sort_in(form, o);
+    match sort {
+        Sort::Graphic(c) => Step::Element(Element::One(c), at + 1),
+        Sort::Mark(m) => follower_step(form, m, false, text, at, at + 1),
+        Sort::Underline => underline_step(form, text, at),
+        Sort::Shift => shift_step(form, text, at),
+        Sort::Control => Step::Element(Element::One(0x2000000 + o as u32), at + 1),
+        Sort::SequenceStart => sequence_step(text, at),
+        Sort::Refused(n) => refused_at(n, at, at),
+    }
+}

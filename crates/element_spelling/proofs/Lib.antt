@@ -1,0 +1,3 @@
+mod Steps
+pub mod Writer
+pub mod OneAnswer

@@ -1,0 +1,296 @@
+-- Canonical spelling of an element: the definition gives exactly the relation; it reads back; what a form reads it holds; and writing keeps the
+-- record of promises of `run`. Over the form.
+-- Assumes nothing.
+use Prim.Native.Nat.{ℕ, _+_, _-_, _≤_, _<_}
+use mathlib.Core.Path.{_≡_, refl, sym, ap, ap₂, _∙_, subst, subst₂}
+use mathlib.Core.Logic.{_↔_}
+use mathlib.Core.Bool.{Bool, true, false}
+use mathlib.Core.List.{List, [], _∷_, _++_}
+use native.Mathlib.Omega.{arith}
+use lib.ListN.{length}
+use lib.Dec.{ltb, eqb}
+use borrow.Author.Tests.{lt-ltb, le-ltb, ltb-false, eqb-true}
+use Rattle.run.specs.Choice.{pick}
+use Rattle.run.specs.Head.{Head, element, refused, none}
+use Rattle.run.specs.Grammar.{Reads}
+use Rattle.run.specs.Speller.{SpeltBy}
+use Rattle.run.proofs.Choices.{pick-case}
+use Rattle.run.proofs.Spellers.{reads-as, spelt-reads, Why, by-head, not-spelt, why}
+use Rattle.sorts.specs.declared.Form.{Form}
+use Rattle.sorts.specs.declared.Sort.{Sort}
+use Rattle.sorts.specs.declared.Sort.the-variants.{Underline, Shift, Control}
+use Rattle.spelling.specs.declared.Spelling.{Spelling}
+use Rattle.spelling.specs.declared.Spelling.the-variants.{One as Single, Shifted, Pair, ShiftedPair, Unspelt}
+use Rattle.sorts.specs.Forms.{SS2}
+use Rattle.sorts.specs.Sorts.{sortIn}
+use Rattle.spelling.specs.CanonicalSpelling.{octetsOf, Codes, Canonical}
+use Rattle.spelling.specs.SpellingGiven.{spellIn}
+use Rattle.spelling.proofs.CanonicalExactly.{exactly, reads-back, has-canonical}
+use Rattle.spelling.proofs.SpellingFacts.{code-point-small}
+use Rattle.sorts.proofs.SortFacts.{shift-is, underline-is, sequence-is, control-small}
+use Rattle.sequence_reading.specs.Kinds.{CSI}
+use Rattle.sequence_reading.specs.Grammar.{Sequence, SpellsSequence}
+use Rattle.sequence_spelling.specs.SequenceOctets.{Fine, CanonicalSequence, spellSequence}
+use Rattle.sequence_reading.proofs.Reader.{sequence-reads}
+use Rattle.sequence_spelling.proofs.Back.{read-fine}
+use Rattle.sequence_spelling.proofs.Exactly.{canonical-exactly, spells-canonical}
+use Rattle.element_words.specs.declared.Element.{Element}
+use Rattle.element_words.specs.declared.Element.the-variants.{One, Sequence as SequenceOf}
+use Rattle.element_words.specs.Words.{graphicWord, controlWord, headWord, sequenceElement, wordsOf, Proper, Means, means, sequenceOf, wordHead}
+use Rattle.element_reading.specs.Grammar.{Awaits, Spells}
+use Rattle.element_reading.specs.Reading.{headIn}
+use Rattle.element_reading.proofs.Reader.{reads}
+use Rattle.element_spelling.specs.ElementOctets.{CC, CanonicalElement, Held, Writes, NoneHeld, bareSort, afterCC, spellWord, spellSequenceWords, spellElement, spellHead}
+use Rattle.element_spelling.proofs.Steps.{bare-back}
+use Rattle.element_words.proofs.Words.{values-back, sequence-back, is-sequence, words-read, words-refused}
+
+-- ---- CC before a spelling
+
+after-spelt : (x : Spelling) → (x ≡ Unspelt → ⊥) → afterCC (octetsOf x) ≡ CC ∷ octetsOf x
+after-spelt (Single o) n = refl
+after-spelt (Shifted o) n = refl
+after-spelt (Pair m l) n = refl
+after-spelt (ShiftedPair m l) n = refl
+after-spelt Unspelt n = absurd (n refl)
+
+-- no octets are no spelling
+abbrev pub Some : List ℕ → Type 0
+Some s = s ≡ [] → ⊥
+
+nothing-spelt : (x : Spelling) → Some (octetsOf x) → x ≡ Unspelt → ⊥
+nothing-spelt x n e = n (ap octetsOf e)
+
+nothing-after : (x : Spelling) → Some (afterCC (octetsOf x)) → x ≡ Unspelt → ⊥
+nothing-after x n e = n (ap (λ (y : Spelling). afterCC (octetsOf y)) e)
+
+module _ (f : Form) where
+  -- ---- the words of each kind of element, spelt
+
+  spell-graphic : (c : ℕ) → c < 0x1000000 → spellWord f (graphicWord false c) ≡ octetsOf (spellIn f c)
+  spell-graphic c h = rw (lt-ltb c 0x1000000 h)
+
+  spell-underlined : (c : ℕ) → c < 0x1000000 → sortIn f CC ≡ Underline → spellWord f (graphicWord true c) ≡ afterCC (octetsOf (spellIn f c))
+  spell-underlined c h s =
+      let w : 0x1000000 + c - 0x1000000 ≡ c = omega arith in
+      rw (le-ltb (0x1000000 + c) 0x1000000 (omega arith), lt-ltb (0x1000000 + c) 0x2000000 (omega arith), s, w)
+
+  spell-control : (o : ℕ) → o < 0x2000000 → sortIn f o ≡ Control → spellWord f (controlWord o) ≡ o ∷ []
+  spell-control o h s =
+      let w : 0x2000000 + o - 0x2000000 ≡ o = omega arith in
+      rw (le-ltb (0x2000000 + o) 0x1000000 (omega arith), le-ltb (0x2000000 + o) 0x2000000 (omega arith), lt-ltb (0x2000000 + o) 0x4000000 (omega arith), w, s)
+
+  spell-sequence : (q : Sequence) → Fine q → spellElement f (sequenceElement q) ≡ pick (eqb (bareSort (sortIn f CSI)) 4) (spellSequence q) []
+  unfolding spellElement
+  spell-sequence q fine =
+      ap (spellSequenceWords f (headWord q)) (values-back (q .values) (fine .eight))
+      ∙ ap (λ (b : Bool). pick (eqb (bareSort (sortIn f CSI)) 4) (pick b (spellSequence (sequenceOf (headWord q) (q .values))) []) []) (is-sequence q fine)
+      ∙ ap (λ (r : Sequence). pick (eqb (bareSort (sortIn f CSI)) 4) (spellSequence r) []) (sequence-back q fine)
+
+  canonical-small : {c : ℕ} {x : Spelling} → Canonical f c x → c < 0x1000000
+  canonical-small {c} k = omega (arith, code-point-small f c (reads-back f c k))
+
+  -- what is canonical is given
+  pub canonical-given : {s : List ℕ} {e : Element} → CanonicalElement f s e → spellElement f e ≡ s
+  unfolding spellElement
+  canonical-given (CanonicalElement.graphic {c} {x} k) =
+      spell-graphic c (canonical-small k) ∙ ap octetsOf (exactly f c x .0 k .0)
+  canonical-given (CanonicalElement.underlined {c} {x} s k) =
+      let e = exactly f c x .0 k in
+      spell-underlined c (canonical-small k) s ∙ ap (λ (y : Spelling). afterCC (octetsOf y)) (e .0) ∙ after-spelt x (e .1)
+  canonical-given (CanonicalElement.control {o} s) = spell-control o (omega (arith, control-small f o s)) s
+  canonical-given (CanonicalElement.sequence {s} {q} st k) =
+      let e = canonical-exactly s q .0 k in
+      spell-sequence q (e .0) ∙ rw st (sym (e .1))
+
+  -- ---- what is given is canonical
+
+  given-graphic : (w : ℕ) → Some (octetsOf (spellIn f w)) → CanonicalElement f (octetsOf (spellIn f w)) (One w)
+  given-graphic w n = CanonicalElement.graphic (exactly f w (spellIn f w) .1 (refl, nothing-spelt (spellIn f w) n))
+
+  given-underlined : (w : ℕ) → 0x1000000 ≤ w → Some (pick (eqb (bareSort (sortIn f CC)) 1) (afterCC (octetsOf (spellIn f (w - 0x1000000)))) []) → CanonicalElement f (pick (eqb (bareSort (sortIn f CC)) 1) (afterCC (octetsOf (spellIn f (w - 0x1000000)))) []) (One w)
+  given-underlined w h = go (eqb (bareSort (sortIn f CC)) 1) refl
+    where
+      x : Spelling
+      x = spellIn f (w - 0x1000000)
+
+      c : 0x1000000 + (w - 0x1000000) ≡ w
+      c = omega arith
+
+      go : (b : Bool) → eqb (bareSort (sortIn f CC)) 1 ≡ b → Some (pick b (afterCC (octetsOf x)) []) → CanonicalElement f (pick b (afterCC (octetsOf x)) []) (One w)
+      go true e n =
+          let u : x ≡ Unspelt → ⊥ = nothing-after x n in
+          subst₂ (λ (s : List ℕ) (v : ℕ). CanonicalElement f s (One v)) (sym (after-spelt x u)) c
+          (CanonicalElement.underlined (bare-back (sortIn f CC) 1 (eqb-true (bareSort (sortIn f CC)) 1 e) (omega arith)) (exactly f (w - 0x1000000) x .1 (refl, u)))
+      go false e n = absurd (n refl)
+
+  given-control : (w : ℕ) → 0x2000000 ≤ w → Some (pick (eqb (bareSort (sortIn f (w - 0x2000000))) 3) ((w - 0x2000000) ∷ []) []) → CanonicalElement f (pick (eqb (bareSort (sortIn f (w - 0x2000000))) 3) ((w - 0x2000000) ∷ []) []) (One w)
+  given-control w h = go (eqb (bareSort (sortIn f (w - 0x2000000))) 3) refl
+    where
+      c : 0x2000000 + (w - 0x2000000) ≡ w
+      c = omega arith
+
+      go : (b : Bool) → eqb (bareSort (sortIn f (w - 0x2000000))) 3 ≡ b → Some (pick b ((w - 0x2000000) ∷ []) []) → CanonicalElement f (pick b ((w - 0x2000000) ∷ []) []) (One w)
+      go true e n = subst (λ (v : ℕ). CanonicalElement f ((w - 0x2000000) ∷ []) (One v)) c (CanonicalElement.control (bare-back (sortIn f (w - 0x2000000)) 3 (eqb-true (bareSort (sortIn f (w - 0x2000000))) 3 e) (omega arith)))
+      go false e n = absurd (n refl)
+
+  abbrev If-some : Element → List ℕ → Type 0
+  If-some e s = Some s → CanonicalElement f s e
+
+  given-word : (w : ℕ) → If-some (One w) (spellWord f w)
+  given-word w =
+      pick-case (If-some (One w)) (ltb w 0x1000000) _ _ (λ t. given-graphic w)
+      (λ a. pick-case (If-some (One w)) (ltb w 0x2000000) _ _ (λ t. given-underlined w (ltb-false w 0x1000000 a))
+      (λ b. pick-case (If-some (One w)) (ltb w 0x4000000) _ _ (λ t. given-control w (ltb-false w 0x2000000 b))
+      (λ c n. absurd (n refl))))
+
+  given-sequence : (q : Sequence) → Fine q → If-some (sequenceElement q) (spellElement f (sequenceElement q))
+  given-sequence q fine = subst (If-some (sequenceElement q)) (sym (spell-sequence q fine)) (go (eqb (bareSort (sortIn f CSI)) 4) refl)
+    where
+      go : (b : Bool) → eqb (bareSort (sortIn f CSI)) 4 ≡ b → If-some (sequenceElement q) (pick b (spellSequence q) [])
+      go true e n = CanonicalElement.sequence (bare-back (sortIn f CSI) 4 (eqb-true (bareSort (sortIn f CSI)) 4 e) (omega arith)) (canonical-exactly (spellSequence q) q .1 (fine, refl))
+      go false e n = absurd (n refl)
+
+  given-canonical : {e : Element} → Proper e → If-some e (spellElement f e)
+  unfolding spellElement
+  given-canonical (Proper.one {w} l) n = given-word w n
+  given-canonical (Proper.sequence {q} fine) n = given-sequence q fine n
+
+  -- a spelling has an octet at least
+  octets-some : (x : Spelling) → (x ≡ Unspelt → ⊥) → Some (octetsOf x)
+  octets-some (Single o) n e = let w : _≡_ {A = ℕ} 0 1 = cc in omega arith
+  octets-some (Shifted o) n e = let w : _≡_ {A = ℕ} 0 1 = cc in omega arith
+  octets-some (Pair m l) n e = let w : _≡_ {A = ℕ} 0 1 = cc in omega arith
+  octets-some (ShiftedPair m l) n e = let w : _≡_ {A = ℕ} 0 1 = cc in omega arith
+  octets-some Unspelt n e = n refl
+
+  cons-some : {o : ℕ} {s : List ℕ} → Some (o ∷ s)
+  cons-some e = let w : _≡_ {A = ℕ} 0 1 = cc in omega arith
+
+  pub canonical-some : {s : List ℕ} {e : Element} → CanonicalElement f s e → Some s
+  canonical-some (CanonicalElement.graphic {c} {x} k) = octets-some x (exactly f c x .0 k .1)
+  canonical-some (CanonicalElement.underlined s k) = cons-some
+  canonical-some (CanonicalElement.control s) = cons-some
+  canonical-some (CanonicalElement.sequence st (CanonicalSequence.canonical h p i)) = cons-some
+
+  pub canonical-proper : {s : List ℕ} {e : Element} → CanonicalElement f s e → Proper e
+  canonical-proper (CanonicalElement.graphic {c} k) = Proper.one {w = graphicWord false c} (omega (arith, canonical-small k))
+  canonical-proper (CanonicalElement.underlined {c} s k) = Proper.one {w = graphicWord true c} (omega (arith, canonical-small k))
+  canonical-proper (CanonicalElement.control {o} s) = Proper.one {w = controlWord o} (omega (arith, control-small f o s))
+  canonical-proper (CanonicalElement.sequence {s} {q} st k) = Proper.sequence (canonical-exactly s q .0 k .0)
+
+  -- The definition gives exactly the canonical spelling.
+  pub spells-exactly : (s : List ℕ) (e : Element) → CanonicalElement f s e ↔ (Proper e × (spellElement f e ≡ s) × Some s)
+  spells-exactly s e = (
+    λ k. (canonical-proper k, canonical-given k, canonical-some k),
+    λ h. subst (λ (x : List ℕ). CanonicalElement f x e) (h .1) (given-canonical (h .0) (λ z. h .2 (sym (h .1) ∙ z))),
+  )
+
+  -- There is one.
+  pub one-spelling : {s t : List ℕ} {e : Element} → CanonicalElement f s e → CanonicalElement f t e → s ≡ t
+  one-spelling k h = sym (canonical-given k) ∙ canonical-given h
+
+  -- ---- it reads back
+
+  codes-spell : {c : ℕ} {x : Spelling} → Codes f c x → Spells f (octetsOf x) (One (graphicWord false c))
+  codes-spell (Codes.one e) = Spells.graphic e
+  codes-spell (Codes.shifted s e) = Spells.shifted s e
+  codes-spell (Codes.pair {l = l} e q) = Spells.pair l (Awaits.mark e) q
+  codes-spell (Codes.shifted-pair {l = l} s e q) = Spells.pair l (Awaits.shifted-mark s e) q
+
+  codes-underlined : {c : ℕ} {x : Spelling} → sortIn f CC ≡ Underline → Codes f c x → Spells f (CC ∷ octetsOf x) (One (graphicWord true c))
+  codes-underlined u (Codes.one e) = Spells.underlined u e
+  codes-underlined u (Codes.shifted s e) = absurd (underline-is f CC u .1 s)
+  codes-underlined u (Codes.pair {l = l} e q) = Spells.pair l (Awaits.underlined-mark u e) q
+  codes-underlined u (Codes.shifted-pair s e q) = absurd (underline-is f CC u .1 s)
+
+  -- The canonical spelling spells its element, so it is read back as that element, whatever follows.
+  pub canonical-spells : {s : List ℕ} {e : Element} → CanonicalElement f s e → Spells f s e
+  canonical-spells (CanonicalElement.graphic {c} k) = codes-spell (reads-back f c k)
+  canonical-spells (CanonicalElement.underlined {c} u k) = codes-underlined u (reads-back f c k)
+  canonical-spells (CanonicalElement.control s) = Spells.control s
+  canonical-spells (CanonicalElement.sequence {q = q} st (CanonicalSequence.canonical h p i)) =
+      let e = canonical-exactly _ q .0 (CanonicalSequence.canonical h p i) in
+      Spells.sequence st (subst (λ (x : List ℕ). SpellsSequence x q) (sym (e .1)) (spells-canonical (e .0)))
+
+  -- ---- what a form reads it holds
+
+  hold : {c : ℕ} {x : Spelling} → Codes f c x → Held f (One (graphicWord false c))
+  hold {c} {x} k = Held.held (CanonicalElement.graphic (has-canonical f c .1 (x, k) .1))
+
+  hold-underlined : {c : ℕ} {x : Spelling} (u : ℕ) → sortIn f u ≡ Underline → Codes f c x → Held f (One (graphicWord true c))
+  hold-underlined {c} {x} u s k =
+      Held.held (CanonicalElement.underlined (sym (ap (sortIn f) (underline-is f u s .0)) ∙ s) (has-canonical f c .1 (x, k) .1))
+
+  shift-sorts : (s : ℕ) → sortIn f s ≡ Shift → sortIn f SS2 ≡ Shift
+  shift-sorts s e = sym (ap (sortIn f) (shift-is f s e .0)) ∙ e
+
+  pub read-held : {p : List ℕ} {e : Element} → Spells f p e → Held f e
+  read-held (Spells.graphic e) = hold (Codes.one e)
+  read-held (Spells.shifted {s} k e) = hold (Codes.shifted (shift-sorts s k) e)
+  read-held (Spells.underlined {u} k e) = hold-underlined u k (Codes.one e)
+  read-held (Spells.pair l (Awaits.mark e) q) = hold (Codes.pair e q)
+  read-held (Spells.pair l (Awaits.shifted-mark {s} k e) q) = hold (Codes.shifted-pair (shift-sorts s k) e q)
+  read-held (Spells.pair l (Awaits.underlined-mark {u} k e) q) = hold-underlined u k (Codes.pair e q)
+  read-held (Spells.control e) = Held.held (CanonicalElement.control e)
+  read-held (Spells.sequence {o} {p} {q} k h) =
+      let fine = read-fine ((o ∷ p) ++ []) q (length (o ∷ p)) (sequence-reads .finds (o ∷ p) [] q h) in
+      Held.held (CanonicalElement.sequence (sym (ap (sortIn f) (sequence-is f o k)) ∙ k) (canonical-exactly (spellSequence q) q .1 (fine, refl)))
+
+  -- ---- writing keeps the record of promises
+
+  -- what is written is what the words mean, spelt
+  pub written-spelt : (p s : List ℕ) → SpeltBy (spellElement f) Means p s ↔ Writes f p s
+  written-spelt p s = (λ h. forth (h .of) (h .spells) (h .gives) (h .some), back)
+    where
+      forth : {p : List ℕ} (e : Element) → Means p e → spellElement f e ≡ s → Some s → Writes f p s
+      forth e (means h) g n = let c = spells-exactly s e .1 (h, g, n) in Writes.writes (Held.held c) c
+
+      back : {p : List ℕ} → Writes f p s → SpeltBy (spellElement f) Means p s
+      back (Writes.writes {e} h k) =
+          record { of = e; spells = means (canonical-proper k); gives = canonical-given k; some = canonical-some k }
+
+  -- Writing finds exactly what is written: the record of promises of `run`.
+  pub writer-reads : Reads (spellHead f) (Writes f)
+  writer-reads = reads-as (spelt-reads words-read (spellElement f)) written-spelt
+
+  refused-10 : (ws : List ℕ) (r d : ℕ) → Why (spellElement f) wordHead ws r d → (10 ≡ r) × (0 ≡ d)
+  refused-10 ws r d (by-head q) = words-refused ws r d q
+  refused-10 ws r d (not-spelt q g er ed) = (sym er, sym ed)
+
+  -- Words are refused with 10, at their first.
+  pub writer-refuses : (ws : List ℕ) (r d : ℕ) → spellHead f ws ≡ refused r d → (10 ≡ r) × (0 ≡ d)
+  writer-refuses ws r d q = refused-10 ws r d (why (spellElement f) wordHead ws r d q)
+
+  words-held : {p s : List ℕ} → Writes f p s → (e : Element) × Held f e × (p ≡ wordsOf e)
+  words-held (Writes.writes {e} h k) = (e, h, refl)
+
+  some-words : (ws : List ℕ) (r d : ℕ) → spellHead f ws ≡ refused r d → 0 < length ws
+  some-words [] r d q = let e = writer-reads .ends in let w : _≡_ {A = ℕ} 0 1 = cc in absurd (omega arith)
+  some-words (w ∷ ws) r d q = omega arith
+
+  not-written : (ws : List ℕ) (r d : ℕ) → spellHead f ws ≡ refused r d → (e : Element) (t : List ℕ) → Held f e → ws ≡ wordsOf e ++ t → ⊥
+  not-written ws r d q e t (Held.held {s} k) w =
+      let found : spellHead f ws ≡ element s (length (wordsOf e)) = ap (spellHead f) w ∙ writer-reads .finds (wordsOf e) t s (Writes.writes (Held.held k) k) in
+      let z : _≡_ {A = ℕ} 0 1 = cc in
+      omega arith
+
+  -- Words are refused exactly where no words of an element that the form writes stand first: with 10, at the first word.
+  pub writer-refuses-exactly : (ws : List ℕ) (r d : ℕ) → (spellHead f ws ≡ refused r d) ↔ ((r ≡ 10) × (d ≡ 0) × NoneHeld f ws)
+  writer-refuses-exactly ws r d = (forth, back (spellHead f ws) refl)
+    where
+      forth : spellHead f ws ≡ refused r d → (r ≡ 10) × (d ≡ 0) × NoneHeld f ws
+      forth q =
+          let z = writer-refuses ws r d q in
+          (sym (z .0), sym (z .1), record { some = some-words ws r d q; not-held = not-written ws r d q })
+
+      back : (h : Head (List ℕ)) → spellHead f ws ≡ h → (r ≡ 10) × (d ≡ 0) × NoneHeld f ws → spellHead f ws ≡ refused r d
+      back (element s k) q n =
+          let b = writer-reads .found ws s k q in
+          let w = words-held (b .spells) in
+          absurd (n .2 .not-held (w .0) (b .rest) (w .1) (b .whole ∙ ap (λ (l : List ℕ). l ++ b .rest) (w .2)))
+      back (refused r′ d′) q n = let z = writer-refuses ws r′ d′ q in q ∙ ap₂ refused (sym (z .0) ∙ sym (n .0)) (sym (z .1) ∙ sym (n .1))
+      back none q n = absurd (omega (arith, n .2 .some, ap length (writer-reads .goes ws q)))
+
+  -- An element's canonical spelling reads back as that element, whatever follows it.
+  pub canonical-reads : (s t : List ℕ) (e : Element) → CanonicalElement f s e → headIn f (s ++ t) ≡ element e (length s)
+  canonical-reads s t e c = reads f .finds s t e (canonical-spells c)

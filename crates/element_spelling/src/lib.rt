@@ -1,0 +1,209 @@
+// One element, spelt in a form.
+use element_words::Element;
+use sequence_reading::Values;
+use sorts::Form;
+use sorts::Sort;
+use spelling::Spelling;
+ghost use mathlib.Core.Path.{_≡_};
+ghost use Prim.Native.Nat.{_+_, _≤_};
+ghost use lib.ListN.{length};
+ghost use Rattle.run.specs.Put.{Put, whatFits};
+ghost use Rattle.spelling.specs.CanonicalSpelling.{octetsOf};
+ghost use Rattle.sequence_reading.specs.Reading.{listOf};
+ghost use Rattle.element_spelling.specs.ElementOctets.{bareSort, spellWord, spellSequenceWords, spellElement, wordSpelling, isUnderlined};
+
+// The sorts that carry nothing, each by its number; 0 for any other.
+fn bare_sort(sort: Sort) -> u8
+    ensures { λ r. ⌜ r ≡ bareSort sort ⌝ }
+{
+    match sort {
+        Sort::Graphic(_) => 0,
+        Sort::Mark(_) => 0,
+        Sort::Underline => 1,
+        Sort::Shift => 2,
+        Sort::Control => 3,
+        Sort::SequenceStart => 4,
+        Sort::Refused(_) => 0,
+    }
+}
+
+// What a word is spelt as, but for the CC of an underlined one: a character, an underlined character, a control.
+fn word_spelling(form: Form, w: u32) -> Spelling
+    ensures { λ r. ⌜ r ≡ wordSpelling form w ⌝ }
+{
+    if w < 0x1000000 {
+        return spelling::spell_in(form, w);
+    }
+    if w < 0x2000000 {
+        if bare_sort(sorts::sort_in(form, 0xCC)) == 1 {
+            return spelling::spell_in(form, w - 0x1000000);
+        }
+        return Spelling::Unspelt;
+    }
+    if w < 0x2000100 {
+        let o = (w - 0x2000000) as u8;
+        if bare_sort(sorts::sort_in(form, o)) == 3 {
+            return Spelling::One(o);
+        }
+        return Spelling::Unspelt;
+    }
+    Spelling::Unspelt
+}
+
+// 01: "plus 2^24 if underlined".
+fn is_underlined(w: u32) -> bool
+    ensures { λ r. ⌜ r ≡ isUnderlined w ⌝ }
+{
+    if w < 0x1000000 {
+        return false;
+    }
+    w < 0x2000000
+}
+
+fn octets_in(x: Spelling) -> usize
+    ensures { λ r. ⌜ r ≡ length (octetsOf x) ⌝ }
+{
+    match x {
+        Spelling::One(_) => 1,
+        Spelling::Shifted(_) => 2,
+        Spelling::Pair(_, _) => 2,
+        Spelling::ShiftedPair(_, _) => 3,
+        Spelling::Unspelt => 0,
+    }
+}
+
+// How many octets one word is spelt with; 01: "after CC if underlined".
+fn word_size(form: Form, w: u32) -> usize
+    ensures { λ r. ⌜ r ≡ length (spellWord form w) ⌝ }
+{
+    let n = octets_in(word_spelling(form, w));
+    if n == 0 {
+        return 0;
+    }
+    if is_underlined(w) {
+        return n + 1;
+    }
+    n
+}
+
+fn put_octets(x: Spelling, out: &mut [u8], at: usize) -> usize
+    requires { ⌜ at + length (octetsOf x) ≤ length (now out) ⌝ }
+    ensures { λ r. ⌜ Put (now (out .entry)) at (octetsOf x) (now (out .exit)) r ⌝ }
+{
+    match x {
+        Spelling::One(o) => run::put(out, at, o),
+        Spelling::Shifted(o) => {
+            let i = run::put(out, at, 0x19);
+            run::put(out, i, o)
+        }
+        Spelling::Pair(m, l) => {
+            let i = run::put(out, at, m);
+            run::put(out, i, l)
+        }
+        Spelling::ShiftedPair(m, l) => {
+            let i = run::put(out, at, 0x19);
+            let j = run::put(out, i, m);
+            run::put(out, j, l)
+        }
+        Spelling::Unspelt => at,
+    }
+}
+
+// One word, where there is room for all of its octets.
+fn put_word(form: Form, w: u32, out: &mut [u8], at: usize) -> usize
+    ensures { λ r. ⌜ Put (now (out .entry)) at (whatFits (now (out .entry)) at (spellWord form w)) (now (out .exit)) r ⌝ }
+{
+    let x = word_spelling(form, w);
+    let n = octets_in(x);
+    if out.len() < at {
+        return at;
+    }
+    let room = out.len() - at;
+    if n == 0 {
+        return at;
+    }
+    if is_underlined(w) {
+        if room < n + 1 {
+            return at;
+        }
+        let i = run::put(out, at, 0xCC);
+        return put_octets(x, out, i);
+    }
+    if room < n {
+        return at;
+    }
+    put_octets(x, out, at)
+}
+
+// The octets of a head word and its values, where the form has sequences and they are one; else none.
+fn sequence_words_size(form: Form, head: u32, values: &[u32]) -> usize
+    ensures { λ r. ⌜ r ≡ length (spellSequenceWords form head (now (values .entry))) ⌝ }
+{
+    if bare_sort(sorts::sort_in(form, 0x9B)) != 4 {
+        return 0;
+    }
+    if !element_words::is_sequence(head, values) {
+        return 0;
+    }
+    let middle = (head - 0x4000000) / 0x10000;
+    let last = head / 0x100 % 0x100;
+    sequence_spelling::sequence_size(middle as u8, last as u8, values)
+}
+
+fn put_sequence_words(form: Form, head: u32, values: &[u32], out: &mut [u8], at: usize) -> usize
+    ensures { λ r. ⌜ Put (now (out .entry)) at (whatFits (now (out .entry)) at (spellSequenceWords form head (now (values .entry)))) (now (out .exit)) r ⌝ }
+{
+    if bare_sort(sorts::sort_in(form, 0x9B)) != 4 {
+        return at;
+    }
+    if !element_words::is_sequence(head, values) {
+        return at;
+    }
+    let middle = (head - 0x4000000) / 0x10000;
+    let last = head / 0x100 % 0x100;
+    sequence_spelling::put_sequence(middle as u8, last as u8, values, out, at)
+}
+
+// The eight values of a struct as an array.
+fn eight(v: Values) -> [u32; 8]
+    ensures { λ r. ⌜ r ≡ listOf v ⌝ }
+{
+    [v.v0, v.v1, v.v2, v.v3, v.v4, v.v5, v.v6, v.v7]
+}
+
+// How many octets an element's canonical spelling in a form has; 0 where the form does not hold it.
+pub fn spelt_size(form: Form, e: Element) -> usize
+    ensures { λ r. ⌜ r ≡ length (spellElement form e) ⌝ }
+{
+    match e {
+        Element::One(w) => word_size(form, w),
+        Element::Sequence {
+            head,
+            count,
+            values,
+        } => {
+            let all = eight(values);
+            let n = element_words::kept(count);
+            sequence_words_size(form, head, &all[..n])
+        }
+    }
+}
+
+// Writes an element's canonical spelling at `at` and answers the place after it; where the form does not hold it or the room is short, it does
+// nothing and answers `at`.
+pub fn put_spelling(form: Form, e: Element, out: &mut [u8], at: usize) -> usize
+    ensures { λ r. ⌜ Put (now (out .entry)) at (whatFits (now (out .entry)) at (spellElement form e)) (now (out .exit)) r ⌝ }
+{
+    match e {
+        Element::One(w) => put_word(form, w, out, at),
+        Element::Sequence {
+            head,
+            count,
+            values,
+        } => {
+            let all = eight(values);
+            let n = element_words::kept(count);
+            put_sequence_words(form, head, &all[..n], out, at)
+        }
+    }
+}

@@ -1,0 +1,4 @@
+pub mod Words
+pub mod HeadWords
+mod Meanings
+pub mod OneAnswer

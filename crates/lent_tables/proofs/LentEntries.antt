@@ -1,0 +1,115 @@
+-- What a lent table's entries say of the form: what a reader above relies on, who looks into no table itself.
+-- Assumes nothing.
+use Prim.Native.Nat.{ℕ, zero, suc, _+_, _-_, _≤_, _<_}
+use mathlib.Core.Path.{_≡_, refl, sym, ap, _∙_}
+use mathlib.Core.List.{List, [], map}
+use mathlib.Core.Bool.{Bool, true, false}
+use native.Mathlib.Nat.{add-zero, add-suc, suc-add, le-of-suc-le-suc, not-suc-le-zero}
+use native.Mathlib.Omega.{arith}
+use lib.Dec.{leb}
+use lib.ListN.{getD}
+use borrow.Author.Tests.{lt-ltb, le-ltb, le-leb, lt-leb, ne-eqb}
+use Rattle.run.specs.Choice.{pick}
+use Rattle.sorts.specs.declared.Form.{Form}
+use Rattle.sorts.specs.declared.Sort.{Sort}
+use Rattle.sorts.specs.declared.Sort.the-variants.{Graphic, Mark, Underline, Shift, Control, SequenceStart, Refused}
+use Rattle.sorts.specs.declared.Found.the-variants.{Char}
+use Rattle.sorts.specs.Tables.{consecutive}
+use Rattle.squares.specs.Squares.{squareOf, rowOf, columnOf, squareTable, squareIn}
+use Rattle.sorts.specs.Sorts.{sortIn}
+use Rattle.lent_tables.specs.CodeTables.{noCharacter, neither, codeOf, codeTable, codeIn, pairedIn}
+use Rattle.sorts.proofs.SortFacts.{graphic-small, mark-small}
+use Rattle.squares.proofs.Pairs.{filled}
+
+-- ---- what an octet is by itself
+
+at-consecutive : (g : ℕ → ℕ) (a n k : ℕ) → k < n → getD (map g (consecutive a n)) k 0 ≡ g (a + k)
+at-consecutive g a zero k h = absurd (not-suc-le-zero h)
+at-consecutive g a (suc n) zero h = ap g (sym (add-zero a))
+at-consecutive g a (suc n) (suc k) h = at-consecutive g (suc a) n k (le-of-suc-le-suc h) ∙ ap g (suc-add a k ∙ sym (add-suc a k))
+
+at-octet : (f : Form) (o : ℕ) → o < 256 → codeIn (codeTable f) o ≡ codeOf (sortIn f o)
+unfolding codeTable
+at-octet f o h =
+    let z : 0 + o ≡ o = omega arith in
+    simp (lt-ltb o 256 h) (at-consecutive (λ k. codeOf (sortIn f k)) 0 256 o h ∙ ap (λ (k : ℕ). codeOf (sortIn f k)) z)
+
+no-octet : (f : Form) (o : ℕ) → 256 ≤ o → codeIn (codeTable f) o ≡ neither
+no-octet f o h = simp (le-ltb o 256 h)
+
+graphic-of : (s : Sort) → codeOf s < noCharacter → s ≡ Graphic (codeOf s)
+graphic-of (Graphic c) h = refl
+graphic-of (Mark m) h = absurd (omega arith)
+graphic-of Underline h = absurd (omega arith)
+graphic-of Shift h = absurd (omega arith)
+graphic-of Control h = absurd (omega arith)
+graphic-of SequenceStart h = absurd (omega arith)
+graphic-of (Refused k) h = absurd (omega arith)
+
+-- a code below 2^15: the octet is a graphic, that character
+pub graphic-code : (f : Form) (o : ℕ) → codeIn (codeTable f) o < noCharacter → sortIn f o ≡ Graphic (codeIn (codeTable f) o)
+graphic-code f o h =
+    let past : 256 ≤ o → ⊥ = λ k. let e = no-octet f o k in omega arith in
+    let e = at-octet f o (omega (arith, past)) in
+    graphic-of (sortIn f o) (omega arith) ∙ ap Graphic (sym e)
+
+-- ---- a pair
+
+-- a follower that has a column is an octet
+column-small : (l : ℕ) → columnOf l < 53 → l < 256
+unfolding columnOf
+column-small l h =
+    let past : 256 ≤ l → ⊥ =
+    λ k. let e : columnOf l ≡ 53 = simp (
+      le-leb 0x41 l (omega arith),
+      lt-leb l 0x5A (omega arith),
+      le-leb 0x61 l (omega arith),
+      lt-leb l
+          0x7A (omega arith),
+      ne-eqb l 0x20 (omega arith),
+    ) in omega (arith, e) in
+    omega (arith, past)
+
+pick-0 : (b : Bool) → _≡_ {A = ℕ} (pick b 0 0) 0
+pick-0 true = refl
+pick-0 false = refl
+
+column-inside : (table : List (List ℕ)) (r k : ℕ) → (squareIn table r k ≡ 0 → ⊥) → k < 53
+column-inside table r k some =
+    let past : 53 ≤ k → ⊥ = λ h. some (ap (λ (b : Bool). pick (leb 13 r) 0 (pick b 0 (getD (getD table r []) k 0))) (le-leb 53 k h)
+    ∙ pick-0 (leb 13 r)) in
+    omega (arith, past)
+
+-- the mark and its follower, of an entry that is not 0
+pub record Listed (f : Form) (o l c : ℕ) : Type 0 where
+  pub mark : ℕ
+  pub sorts : sortIn f o ≡ Mark mark
+  pub square : squareOf mark l ≡ Char c
+
+module _ (f : Form) (o l c : ℕ) (some : c ≡ 0 → ⊥) where
+  in-row : (m : ℕ) → sortIn f o ≡ Mark m → c ≡ squareIn squareTable (rowOf m) (columnOf l) → Listed f o l c
+  in-row m q e =
+      record {
+        mark = m;
+        sorts = q;
+        square = sym
+            (filled m l (rowOf m) (columnOf l) c refl refl e (mark-small f o m q)
+            (column-small l (column-inside squareTable (rowOf m) (columnOf l) (λ z. some (e ∙ z)))) some);
+      }
+
+  listed-by : (s : Sort) → sortIn f o ≡ s → c ≡ pairedIn squareTable (codeOf s) l → Listed f o l c
+  listed-by (Mark m) q e =
+      let r : noCharacter + rowOf m - noCharacter ≡ rowOf m = omega arith in
+      in-row m q (e ∙ simp (le-ltb (noCharacter + rowOf m) noCharacter (omega arith), r))
+  listed-by (Graphic k) q e = absurd (some (e ∙ simp (lt-ltb k noCharacter (graphic-small f o k q))))
+  listed-by Underline q e = absurd (some e)
+  listed-by Shift q e = absurd (some e)
+  listed-by Control q e = absurd (some e)
+  listed-by SequenceStart q e = absurd (some e)
+  listed-by (Refused n) q e = absurd (some e)
+
+  -- a pair's character that is not 0: the octet is a mark, and the follower is listed
+  pub pair-code : c ≡ pairedIn squareTable (codeIn (codeTable f) o) l → Listed f o l c
+  pair-code e =
+      let past : 256 ≤ o → ⊥ = λ k. some (e ∙ ap (λ (x : ℕ). pairedIn squareTable x l) (no-octet f o k)) in
+      listed-by (sortIn f o) refl (e ∙ ap (λ (x : ℕ). pairedIn squareTable x l) (at-octet f o (omega (arith, past))))

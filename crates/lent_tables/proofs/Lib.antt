@@ -1,0 +1,2 @@
+pub mod LentEntries
+pub mod OneAnswer

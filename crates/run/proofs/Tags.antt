@@ -1,0 +1,83 @@
+-- A head whose elements carry tags: it keeps the record of promises if the head does, and without the tags its outcome is the head's.
+-- Assumes nothing.
+use Prim.Native.Nat.{ℕ, zero, suc, _-_}
+use mathlib.Core.Path.{_≡_, refl, sym, ap, ap₂, _∙_, subst}
+use mathlib.Core.List.{List, [], _∷_, _++_}
+use native.Mathlib.Omega.{arith}
+use lib.ListN.{length, take}
+use lib.Seq.{take-append-seam}
+use Rattle.run.specs.Head.{Head, element, refused, none, Outcome, accepted, refusal, join, after, from, outcome}
+use Rattle.run.specs.Grammar.{Begins, Reads}
+use Rattle.run.specs.Tagged.{Tagged, tagHead, tagged, untag}
+
+-- ---- without the tags
+
+untag-join : {A B : Type 0} (x : A × B) (k : ℕ) (y : Outcome (A × B)) → untag (join (x ∷ []) k y) ≡ join (x .0 ∷ []) k (untag y)
+untag-join x k (accepted es) = refl
+untag-join x k (refusal r n p d) = refl
+
+module _ {X A B : Type 0} (tag : List X → A → B) (head : List X → Head A) where
+  untag-after : (s : List X) (h : Head A) (rest : ℕ → Outcome (A × B)) (rest′ : ℕ → Outcome A) → ((k : ℕ) → untag (rest k) ≡ rest′ k)
+      → untag (after (tagHead tag s h) rest) ≡ after h rest′
+  untag-after s (element e k) rest rest′ ih = untag-join (e, tag (take k s) e) k (rest (k - 1)) ∙ ap (join (e ∷ []) k) (ih (k - 1))
+  untag-after s (refused r d) rest rest′ ih = refl
+  untag-after s none rest rest′ ih = refl
+
+  untag-from : (s : List X) (k : ℕ) → untag (from (tagged tag head) s k) ≡ from head s k
+  unfolding from
+  untag-from [] k = refl
+  untag-from (b ∷ s) zero = untag-after (b ∷ s) (head (b ∷ s)) (from (tagged tag head) s) (from head s) (untag-from s)
+  untag-from (b ∷ s) (suc k) = untag-from s k
+
+  -- The outcome of a tagged head, without the tags, is the head's.
+  pub untag-outcome : (s : List X) → untag (outcome (tagged tag head) s) ≡ outcome head s
+  unfolding outcome
+  untag-outcome s = untag-from s 0
+
+-- ---- the promises
+
+module _ {X A B : Type 0} (tag : List X → A → B) {head : List X → Head A} {S : List X → A → Type 0} (laws : Reads head S) where
+  tagged-finds : (p t : List X) (x : A × B) → Tagged tag S p x → tagged tag head (p ++ t) ≡ element x (length p)
+  tagged-finds p t x h =
+      ap (tagHead tag (p ++ t)) (laws .finds p t (x .0) (h .0))
+      ∙ ap (λ (b : B). element (x .0, b) (length p)) (ap (λ (q : List X). tag q (x .0)) (take-append-seam p t) ∙ sym (h .1))
+
+  tagged-found : (s : List X) (x : A × B) (k : ℕ) (h : Head A) → head s ≡ h → tagHead tag s h ≡ element x k → Begins (Tagged tag S) s x k
+  tagged-found s x k (element e n) q z =
+      let b = laws .found s e n q in
+      let ex : _≡_ {A = A × B} (e, tag (take n s) e) x = cc in
+      let en : n ≡ k = cc in
+      let piece : take n s ≡ b .front = ap₂ take (b .size) (b .whole) ∙ take-append-seam (b .front) (b .rest) in
+      record {
+        front = b .front;
+        rest = b .rest;
+        whole = b .whole;
+        spells = subst (Tagged tag S (b .front)) ex (b .spells, ap (λ (p : List X). tag p e) piece);
+        size = sym en ∙ b .size;
+      }
+  tagged-found s x k (refused r d) q z = let w : _≡_ {A = ℕ} 0 1 = cc in absurd (omega arith)
+  tagged-found s x k none q z = let w : _≡_ {A = ℕ} 0 1 = cc in absurd (omega arith)
+
+  -- what is refused, and where nothing is left, is as the head says
+  refused-of : (s : List X) (h : Head A) (r d : ℕ) → tagHead tag s h ≡ refused r d → h ≡ refused r d
+  refused-of s (element e n) r d z = let w : _≡_ {A = ℕ} 0 1 = cc in absurd (omega arith)
+  refused-of s (refused r′ d′) r d z = cc
+  refused-of s none r d z = let w : _≡_ {A = ℕ} 0 1 = cc in absurd (omega arith)
+
+  none-of : (s : List X) (h : Head A) → tagHead tag s h ≡ none → h ≡ none
+  none-of s (element e n) z = let w : _≡_ {A = ℕ} 0 1 = cc in absurd (omega arith)
+  none-of s (refused r d) z = let w : _≡_ {A = ℕ} 0 1 = cc in absurd (omega arith)
+  none-of s none z = refl
+
+  -- A head that keeps the record of promises keeps it with tags.
+  pub tagged-reads : Reads (tagged tag head) (Tagged tag S)
+  tagged-reads =
+      record {
+        finds = tagged-finds;
+        found = λ s x k z. tagged-found s x k (head s) refl z;
+        some = λ p x h. laws .some p (x .0) (h .0);
+        ends = ap (tagHead tag []) (laws .ends);
+        goes = λ s z. laws .goes s (none-of s (head s) z);
+        numbered = λ s r d z. laws .numbered s r d (refused-of s (head s) r d z);
+        inside = λ s r d z. laws .inside s r d (refused-of s (head s) r d z);
+      }

@@ -1,4 +1,0 @@
-pub mod Kinds
-pub mod Grammar
-pub mod Reading
-pub mod Spelling

@@ -1,0 +1,4 @@
+pub mod Exactly
+mod Puts
+pub mod Back
+pub mod OneAnswer

@@ -1,0 +1,4 @@
+mod SpellingWays
+pub mod CanonicalExactly
+pub mod SpellingFacts
+pub mod OneAnswer

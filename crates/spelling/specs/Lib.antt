@@ -1,0 +1,2 @@
+pub mod CanonicalSpelling
+pub mod SpellingGiven

@@ -1,0 +1,105 @@
+-- To be believed: the squares of 13 marks by 53 followers, the character of a mark and its follower, and the pair of a character; behind
+-- them, the table of 13 by 53 and its places, parts of the code.
+-- Assumes nothing.
+use Prim.Native.Nat.{ℕ, suc, _-_, _/_, _%_}
+use mathlib.Core.List.{List, [], _∷_, _++_, map}
+use lib.Dec.{eqb, leb}
+use lib.ListN.{getD}
+use Rattle.run.specs.Choice.{pick, within, firstBy}
+use Rattle.sorts.specs.declared.Found.{Found}
+use Rattle.sorts.specs.declared.Found.the-variants.{Char, Nothing}
+use Rattle.squares.specs.declared.Pairing.{Pairing}
+use Rattle.squares.specs.declared.Pairing.the-variants.{Of, Nowhere}
+use Rattle.sorts.specs.Cells.{Cell, _is_, charIn, number}
+use Rattle.sorts.specs.Tables.{Row, row, rows, letters, consecutive}
+
+abbrev pub markOf : Row → ℕ
+markOf (row m cs) = m
+
+abbrev pub cellsOf : Row → List Cell
+cellsOf (row m cs) = cs
+
+-- the cells of a mark: none of an octet that is no mark
+abbrev pub cellsIn : List Row → ℕ → List Cell
+cellsIn = firstBy markOf cellsOf []
+
+-- the character of a mark and its listed follower
+unfoldable pub squareOf : ℕ → ℕ → Found
+unfolding rows
+squareOf m l = charIn (cellsIn rows m) l
+
+-- 01's number of each answer to that: 3 where "what follows a mark isn't its listed follower"
+abbrev pub foundNumber : Found → ℕ
+foundNumber (Char c) = 0
+foundNumber Nothing = 3
+
+-- a filled square: its mark, its follower, its character
+pub data Square : Type 0 where
+  sq : ℕ → ℕ → ℕ → Square
+
+abbrev pub inRow : ℕ → List Cell → List Square → List Square
+inRow m [] more = more
+inRow m (l is c ∷ cs) more = sq m l c ∷ inRow m cs more
+
+abbrev pub squaresIn : List Row → List Square
+squaresIn [] = []
+squaresIn (row m cs ∷ rs) = inRow m cs (squaresIn rs)
+
+-- the filled squares, row by row
+unfoldable pub squares : List Square
+unfolding rows
+squares = squaresIn rows
+
+abbrev pub character : Square → ℕ
+character (sq m l c) = c
+
+abbrev pub pairing : Square → Pairing
+pairing (sq m l c) = Of m l
+
+-- the first pair that makes a character
+abbrev pub pairIn : List Square → ℕ → Pairing
+pairIn = firstBy character pairing Nowhere
+
+unfoldable pub pairOf : ℕ → Pairing
+unfolding squares
+pairOf c = pairIn squares c
+
+-- ---- parts of the code: the table of 13 by 53
+
+-- "13 marks by 53 followers (52 letters and SPACE)": A to Z, a to z, SPACE
+unfoldable pub marks : List ℕ
+unfolding letters
+marks = map markOf letters
+
+unfoldable pub followers : List ℕ
+followers = consecutive 0x41 26 ++ consecutive 0x61 26 ++ (0x20 ∷ [])
+
+-- a square as an entry of the table: 0 where it is empty
+unfoldable pub squareTable : List (List ℕ)
+unfolding squareOf marks followers
+squareTable = map (λ m. map (λ l. number (squareOf m l)) followers) marks
+
+-- an entry of such a table: 0 past the table
+abbrev pub squareIn : List (List ℕ) → ℕ → ℕ → ℕ
+squareIn table r c = pick (leb 13 r) 0 (pick (leb 53 c) 0 (getD (getD table r []) c 0))
+
+-- the mark and the follower at a place, counted row by row
+unfoldable pub pairAt : ℕ → Pairing
+unfolding marks followers
+pairAt i = pick (leb 689 i) Nowhere (Of (getD marks (i / 53) 0) (getD followers (i % 53) 0))
+
+-- the place of a mark's row, and how many rows there are where the octet is no mark
+abbrev pub placeIn : List Row → ℕ → ℕ
+placeIn [] m = 0
+placeIn (row a cs ∷ rs) m = let more = suc (placeIn rs m) in pick (eqb a m) 0 more
+
+unfoldable pub rowOf : ℕ → ℕ
+unfolding rows
+rowOf m = placeIn rows m
+
+-- the column of a follower, 53 where the octet is none
+unfoldable pub columnOf : ℕ → ℕ
+columnOf l =
+    pick (within 0x41 0x5A l) (l - 0x41)
+    (pick (within 0x61 0x7A l) (l - 0x47)
+    (pick (eqb l 0x20) 52 53))

@@ -1,0 +1,96 @@
+// The squares of document 01: a mark and its follower, and the character of both.
+mod table;
+
+use sorts::Found;
+ghost use mathlib.Core.Path.{_≡_};
+ghost use Rattle.squares.specs.Squares.{squareOf, pairOf, rowOf, columnOf, pairAt, squareTable, squareIn};
+
+// The mark and the follower of a character.
+pub enum Pairing {
+    Of(u8, u8),
+    Nowhere,
+}
+
+// The row of a mark, or 13 where the octet is no mark.
+fn row_of(mark: u8) -> usize
+    ensures { λ r. ⌜ r ≡ rowOf mark ⌝ }
+{
+    match mark {
+        0xC1..=0xC8 => (mark - 0xC1) as usize,
+        0xCA..=0xCB => (mark - 0xC2) as usize,
+        0xCD..=0xCF => (mark - 0xC3) as usize,
+        _ => 13,
+    }
+}
+
+// The column of a follower, or 53 where the octet is none.
+pub fn column_of(follower: u8) -> usize
+    ensures { λ r. ⌜ r ≡ columnOf follower ⌝ }
+{
+    match follower {
+        0x41..=0x5A => (follower - 0x41) as usize,
+        0x61..=0x7A => (follower - 0x47) as usize,
+        0x20 => 52,
+        _ => 53,
+    }
+}
+
+// The table of squares, to be lent: made once for a whole text, as a look-up in a constant copies the whole of it.
+pub fn square_table() -> [[u16; 53]; 13]
+    ensures { λ r. ⌜ r ≡ squareTable ⌝ }
+{
+    table::SQUARES
+}
+
+// An entry of a lent table of squares: 0 where the square is empty, or past the table.
+pub fn square_in(table: &[[u16; 53]; 13], row: usize, column: usize) -> u32
+    ensures { λ r. ⌜ r ≡ squareIn (now (table .entry)) row column ⌝ }
+{
+    if 13 <= row {
+        return 0;
+    }
+    if 53 <= column {
+        return 0;
+    }
+    sorts::wide(table[row][column])
+}
+
+// The character of a mark, as its octet in the eight-bit forms, and a follower.
+pub fn paired(mark: u8, follower: u8) -> Found
+    ensures { λ r. ⌜ r ≡ squareOf mark follower ⌝ }
+{
+    let table = table::SQUARES;
+    let x = square_in(&table, row_of(mark), column_of(follower));
+    if x == 0 {
+        return Found::Nothing;
+    }
+    Found::Char(x)
+}
+
+// The mark and the follower of a square, counted row by row.
+fn pair_at(i: usize) -> Pairing
+    ensures { λ r. ⌜ r ≡ pairAt i ⌝ }
+{
+    if 689 <= i {
+        return Pairing::Nowhere;
+    }
+    Pairing::Of(table::MARKS[i / 53], table::FOLLOWERS[i % 53])
+}
+
+// The pair of a character, looked for square by square.
+pub fn find_pair(c: u32) -> Pairing
+    ensures { λ r. ⌜ r ≡ pairOf c ⌝ }
+{
+    if c == 0 {
+        return Pairing::Nowhere;
+    }
+    let table = table::SQUARES; // copied once for the search
+    let mut i: usize = 0;
+    while i < 689 {
+        if square_in(&table, i / 53, i % 53) == c {
+            return pair_at(i);
+        }
+        i += 1;
+    }
+    Pairing::Nowhere
+}

@@ -1,0 +1,27 @@
+-- At the public edge: the form's number, and the limit.
+-- Assumes nothing.
+use Prim.Native.Nat.{ℕ, _≤_, _<_}
+use mathlib.Core.Path.{_≡_, sym, ap, _∙_}
+use mathlib.Core.List.{List}
+use lib.ListN.{length}
+use borrow.Author.Tests.{le-leb, lt-leb}
+use Rattle.sorts.specs.declared.Form.{Form}
+use Rattle.sorts.specs.declared.FormFound.{FormFound}
+use Rattle.sorts.specs.declared.FormFound.the-variants.{Is, Nothing}
+use Rattle.text_reading.specs.Answers.{limit, within-limit}
+use Rattle.sorts.specs.Forms.{inForm}
+
+module _ {A : Type 0} where
+  -- no form has the number
+  pub no-form : (y : FormFound) (x : A) (k : Form → A) → y ≡ Nothing → x ≡ inForm y x k
+  no-form y x k q = sym (ap (λ (z : FormFound). inForm z x k) q)
+
+  -- a form has it
+  pub a-form : (y : FormFound) (f : Form) (x a : A) (k : Form → A) → y ≡ Is f → a ≡ k f → a ≡ inForm y x k
+  a-form y f x a k q e = e ∙ sym (ap (λ (z : FormFound). inForm z x k) q)
+
+  pub over : (input : List ℕ) (x a : A) → limit < length input → x ≡ within-limit input x a
+  over input x a h = simp (lt-leb (length input) limit h)
+
+  pub within : (input : List ℕ) (x a : A) → length input ≤ limit → a ≡ within-limit input x a
+  within input x a h = simp (le-leb (length input) limit h)

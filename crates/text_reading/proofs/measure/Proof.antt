@@ -1,0 +1,58 @@
+-- No form is 11 (no-form), over the limit is 12 (over), else what is counted, for which the room is enough (enough).
+use mathlib.Core.Path.{sym, _∙_}
+use Rattle.text_reading.specs.Answers.{readAnswer}
+use Rattle.text_reading.proofs.Reading.{enough}
+use Rattle.text_reading.proofs.Edges.{no-form, a-form, over, within}
+use borrow.Author.Needs.{needs}
+use Rattle.text_reading.proofs.measure.Statement.{statement}
+use Rattle.text_reading.proofs.measure.Tie as tie
+
+form-of-requires : tie.Need-form-of-requires
+form-of-requires c κs = search needs
+
+enum-known-found : tie.Need-enum-known-found
+enum-known-found c = search needs
+
+enum-told : tie.Need-enum-told
+enum-told c = search needs
+
+bare-answer-requires : tie.Need-bare-answer-requires
+bare-answer-requires c κs = search needs
+
+returns : tie.Need-returns
+unfolding readAnswer
+returns c = c .bare-answer .ensures ∙ no-form _ _ _ (sym (c .before .before .before .form-of .ensures) ∙ c .before .enum-told .given .1)
+
+bare-answer-requires-2 : tie.Need-bare-answer-requires-2
+bare-answer-requires-2 c κs = search needs
+
+returns-2 : tie.Need-returns-2
+unfolding readAnswer
+returns-2 c =
+    let a = c .before .before .before .before .before .before .before .args in
+    let q = sym (c .before .before .before .before .before .form-of .ensures) ∙ c .before .before .before .found .given .1 in
+    c .bare-answer2 .ensures ∙ a-form _ _ _ _ _ q (over (a .text .now) _ _ (c .before .if1 .taken))
+
+measure-in-requires : tie.Need-measure-in-requires
+measure-in-requires c κs = search needs
+
+returns-3 : tie.Need-returns-3
+unfolding readAnswer
+returns-3 c =
+    let a = c .before .before .before .before .before .before .before .args in
+    let q = sym (c .before .before .before .before .before .form-of .ensures) ∙ c .before .before .before .found .given .1 in
+    a-form _ _ _ _ _ q (c .measure-in .ensures ∙ enough _ (a .text .now) ∙ within (a .text .now) _ _ (c .before .if1 .left))
+
+pub measure-spec : {M : Type 1} → statement M
+measure-spec =
+    tie.close
+    (tie.spec
+    form-of-requires
+    enum-known-found
+    enum-told
+    bare-answer-requires
+    returns
+    bare-answer-requires-2
+    returns-2
+    measure-in-requires
+    returns-3)

@@ -1,0 +1,117 @@
+-- The loop knows which characters of the run stand in the buffer (Stored): one more (stored-more), or the run's end (stored-stop,
+-- stored-end).
+use Prim.Native.Nat.{_+_, _-_, _<_}
+use native.Mathlib.Omega.{arith}
+use lib.ListN.{length}
+use borrow.Author.Needs.{needs}
+use Rattle.text_reading.proofs.RunsAndPairs.{Stored, stored-start, stored-length, stored-more, stored-stop, stored-end, stored-room}
+use Rattle.text_reading.proofs.put_within.Statement.{statement}
+use Rattle.text_reading.proofs.put_within.Tie as tie
+
+abbrev Inv-loop : tie.InvT-loop
+Inv-loop codes text at words₀ o most i₀ words i = Stored codes text at most words₀ o i words
+
+abbrev μ-loop : tie.MeasureT-loop
+μ-loop codes text at words₀ o most i₀ words i = most - i
+
+-- the next character has room
+room : (c : tie.Else1 Inv-loop μ-loop)
+    → c .before .before .before .before .before .before .before .args .o + c .before .before .before .before .loop .i < length
+    (c .before .before .before .before .loop .words)
+room c =
+    let s3 = c .before .before .before in
+    let s4 = s3 .before in
+    let s7 = s4 .before .before .before in
+    let a = s7 .args in
+    let i = s4 .loop in
+    stored-room (a .codes .now) (a .text .now) (a .at) (a .most) (a .words .now) (a .o) (i .i) (i .words) (i .inv) (s3 .loop-test .taken)
+    (s7 .pre .0) _ (c .before .code-in .ensures) (c .if1 .left) (s7 .pre .1)
+
+loop-holds : tie.Need-loop-holds Inv-loop μ-loop
+loop-holds c = stored-start _ _ _ _ _ _
+
+add-code-in : tie.Need-add-code-in Inv-loop μ-loop
+add-code-in c = search needs
+
+shared-slice-read-code-in : tie.Need-shared-slice-read-code-in Inv-loop μ-loop
+shared-slice-read-code-in c = search needs
+
+code-in-requires : tie.Need-code-in-requires Inv-loop μ-loop
+code-in-requires c κs = search needs
+
+same-length : tie.Need-same-length Inv-loop μ-loop
+same-length c =
+    let a = c .before .before .before .before .before .before .before .args in
+    let i = c .before .before .before .before .loop in
+    stored-length (a .codes .now) (a .text .now) (a .at) (a .most) (a .words .now) (a .o) (i .i) (i .words) (i .inv)
+
+returns : tie.Need-returns Inv-loop μ-loop
+returns c =
+    let s3 = c .before .before .before in
+    let s4 = s3 .before in
+    let s7 = s4 .before .before .before in
+    let a = s7 .args in
+    let i = s4 .loop in
+    stored-stop (a .codes .now) (a .text .now) (a .at) (a .most) (a .words .now) (a .o) (i .i) (i .words) (i .inv) (s3 .loop-test .taken)
+    (s7 .pre .0) _ (c .before .code-in .ensures) (c .if1 .taken)
+
+add-words : tie.Need-add-words Inv-loop μ-loop
+add-words c = omega (arith, room c)
+
+mul-words : tie.Need-mul-words Inv-loop μ-loop
+mul-words c =
+    let a = c .before .before .before .before .before .before .before .args in
+    let i = c .before .before .before .before .loop in
+    search (needs, room c, stored-length (a .codes .now) (a .text .now) (a .at) (a .most) (a .words .now) (a .o) (i .i) (i .words) (i .inv))
+
+slice-write-words : tie.Need-slice-write-words Inv-loop μ-loop
+slice-write-words c = room c
+
+add-i : tie.Need-add-i Inv-loop μ-loop
+add-i c = search needs
+
+loop-less : tie.Need-loop-less Inv-loop μ-loop
+loop-less c = search needs
+
+loop-again : tie.Need-loop-again Inv-loop μ-loop
+loop-again c =
+    let s3 = c .before .before .before in
+    let s4 = s3 .before in
+    let s7 = s4 .before .before .before in
+    let a = s7 .args in
+    let i = s4 .loop in
+    stored-more (a .codes .now) (a .text .now) (a .at) (a .most) (a .words .now) (a .o) (i .i) (i .words) (i .inv) (s3 .loop-test .taken)
+    (s7 .pre .0) _ (c .before .code-in .ensures) (c .if1 .left)
+
+same-length-2 : tie.Need-same-length-2 Inv-loop μ-loop
+same-length-2 c =
+    let a = c .before .before .before .before .args in
+    let i = c .before .loop in
+    stored-length (a .codes .now) (a .text .now) (a .at) (a .most) (a .words .now) (a .o) (i .i) (i .words) (i .inv)
+
+returns-2 : tie.Need-returns-2 Inv-loop μ-loop
+returns-2 c =
+    let a = c .before .before .before .before .args in
+    let i = c .before .loop in
+    stored-end (a .codes .now) (a .text .now) (a .at) (a .most) (a .words .now) (a .o) (i .i) (i .words) (i .inv) (c .loop-test .left)
+
+pub put-within-spec : {M : Type 1} → statement M
+put-within-spec =
+    tie.close
+    (tie.spec
+    Inv-loop
+    μ-loop
+    loop-holds
+    add-code-in
+    shared-slice-read-code-in
+    code-in-requires
+    same-length
+    returns
+    add-words
+    mul-words
+    slice-write-words
+    add-i
+    loop-less
+    loop-again
+    same-length-2
+    returns-2)

@@ -1,0 +1,54 @@
+-- Proved equal to document 01's table of numbers and its order of refusals (specs/Table): the answers of the public functions, and what a
+-- lent buffer holds after.
+-- Assumes nothing.
+use Prim.Native.Nat.{ℕ}
+use mathlib.Core.List.{List}
+use lib.ListN.{length}
+use lib.Dec.{leb}
+use Rattle.run.specs.Choice.{pick}
+use Rattle.run.specs.Head.{Outcome, outcome}
+use Rattle.run.specs.declared.Answer.{Answer}
+use Rattle.run.specs.Answers.{answer, bare, answerOf, writtenOf}
+use Rattle.sorts.specs.declared.Form.{Form}
+use Rattle.sorts.specs.declared.FormFound.{FormFound}
+use Rattle.sorts.specs.declared.FormFound.the-variants.{Is, Nothing}
+use Rattle.sorts.specs.Forms.{formOf, inForm}
+use Rattle.element_words.specs.declared.Element.{Element}
+use Rattle.element_reading.specs.declared.Step.{Step}
+use Rattle.element_reading.specs.declared.Step.the-variants.{Refused}
+use Rattle.element_words.specs.Words.{wordsOf}
+use Rattle.element_reading.specs.Reading.{headIn, stepAt, stepAnswer}
+
+-- a text of a form, read: its elements, or the first refusal
+abbrev pub readIn : Form → List ℕ → Outcome Element
+readIn f text = outcome (headIn f) text
+
+-- 12: "input over 1,048,576 entries"
+abbrev pub limit : ℕ
+limit = 1048576
+
+-- x where the input is over the limit
+abbrev pub within-limit : {A : Type 0} → List ℕ → A → A → A
+within-limit input x a = pick (leb (length input) limit) a x
+
+-- ---- reading: 11, 12, the reading's refusal, 9
+
+unfoldable pub readAnswer : ℕ → List ℕ → ℕ → Answer
+readAnswer form text room =
+    inForm (formOf form) (bare 11) (λ f. within-limit text (bare 12) (answerOf wordsOf (length text) room (readIn f text)))
+
+unfoldable pub readWords : ℕ → List ℕ → List ℕ → List ℕ
+readWords form text words =
+    inForm (formOf form) words (λ f. within-limit text words (writtenOf wordsOf words (readIn f text)))
+
+-- ---- a lone read: 11, 12, then as an element is read
+
+unfoldable pub loneStep : ℕ → List ℕ → ℕ → Step
+loneStep form text at =
+    inForm (formOf form) (Refused 11 0 0) (λ f. within-limit text (Refused 12 0 0) (stepAt f text at))
+
+-- ---- a part of the code
+
+-- "A lone read's refusal has element 0; the text reader puts its own count there": the answer of a step after n elements
+abbrev pub refusedAs : ℕ → Step → Answer
+refusedAs n step = answer (stepAnswer step .number) n (stepAnswer step .place) (stepAnswer step .count)
