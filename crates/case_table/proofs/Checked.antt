@@ -1,4 +1,5 @@
--- A case is turned away with 13, 14, 11 or 15 exactly when document 01's table and order say so: of header, table and size, and of a whole case.
+-- A case is turned away with 13, 14, 11 or 15 exactly when document 01's table and order say so: of header, table and size, and of a whole
+-- case.
 -- Assumes nothing.
 use Prim.Native.Nat.{ℕ, _≤_}
 use mathlib.Core.Path.{_≡_, refl, sym, ap, ap₂, subst, _∙_}
@@ -9,8 +10,8 @@ use native.Mathlib.Omega.{arith}
 use lib.Dec.{eqb, leb}
 use lib.ListN.{length, take}
 use borrow.Author.Tests.{eqb-true, eqb-false, leb-true, leb-false, eq-eqb}
-use Rattle.run.specs.Choice.{pick}
 use Rattle.run.specs.Answers.{bare}
+use Rattle.run.proofs.Choices.{both-true}
 use Rattle.sorts.specs.declared.FormFound.{FormFound}
 use Rattle.sorts.specs.declared.FormFound.the-variants.{Is, Nothing}
 use Rattle.sorts.specs.Forms.{formOf}
@@ -18,7 +19,7 @@ use Rattle.case_table.specs.declared.Header.{Header}
 use Rattle.case_table.specs.declared.Header.the-variants.{Refused, Pages}
 use Rattle.case_table.specs.Layout.{Layout, version-1, mark, versionOf, formOctet, pageCount, headerPart, tablePart}
 use Rattle.case_table.specs.Check.{begins, headerIn, headerOf, headerAnswer}
-use Rattle.case_table.specs.Grammar.{Marked, Versioned, Formed, TurnedBy, SoundIn, Turned, Sound, sizeSaid}
+use Rattle.case_table.specs.Grammar.{Marked, Versioned, WithForm, TurnedBy, SoundIn, Turned, Sound, sizeSaid}
 use Rattle.case_table.proofs.Headers.{Begun, Known, short, unmarked, other-version, no-form, many, wrong-size, right}
 use Rattle.sorts.proofs.FormNumbers.{found-is, is-found, none-exactly}
 
@@ -38,19 +39,15 @@ mark-begins (a ∷ b ∷ c ∷ s) e =
 false-true : false ≡ true → ⊥
 false-true e = let z : _≡_ {A = ℕ} 0 1 = cc in omega arith
 
-picked : (t a : Bool) → pick t a false ≡ true → (t ≡ true) × (a ≡ true)
-picked true a e = (refl, e)
-picked false a e = absurd (false-true e)
-
 begins-mark : (s : List ℕ) → begins mark s ≡ true → take 3 s ≡ mark
 unfolding begins
 begins-mark [] e = absurd (false-true e)
-begins-mark (a ∷ []) e = absurd (false-true (picked (eqb 0x54 a) false e .1))
-begins-mark (a ∷ b ∷ []) e = absurd (false-true (picked (eqb 0x4C b) false (picked (eqb 0x54 a) _ e .1) .1))
+begins-mark (a ∷ []) e = absurd (false-true (both-true (eqb 0x54 a) false e .1))
+begins-mark (a ∷ b ∷ []) e = absurd (false-true (both-true (eqb 0x4C b) false (both-true (eqb 0x54 a) _ e .1) .1))
 begins-mark (a ∷ b ∷ c ∷ s) e =
-    let p = picked (eqb 0x54 a) _ e in
-    let q = picked (eqb 0x4C b) _ (p .1) in
-    let r = picked (eqb 0x58 c) _ (q .1) in
+    let p = both-true (eqb 0x54 a) _ e in
+    let q = both-true (eqb 0x4C b) _ (p .1) in
+    let r = both-true (eqb 0x58 c) _ (q .1) in
     let ea = eqb-true 0x54 a (p .0) in
     let eb = eqb-true 0x4C b (q .0) in
     let ec = eqb-true 0x58 c (r .0) in
@@ -69,7 +66,7 @@ data Decided (layout : Layout) (header table : List ℕ) (size : ℕ) : Header �
 begun : {header : List ℕ} {size : ℕ} → Marked header size → Begun header size
 begun {header} w = record { eight = w .eight; marked = mark-begins header (w .marked) }
 
-known : {layout : Layout} {header : List ℕ} {size : ℕ} → Formed layout header size → Known layout header size
+known : {layout : Layout} {header : List ℕ} {size : ℕ} → WithForm layout header size → Known layout header size
 known {header = header} w =
     let f = is-found (formOctet header) (w .form) in
     record { begun = begun (w .before .before); version = w .before .version; the-form = f .0; is-form = f .1 }
@@ -81,7 +78,8 @@ module _ (layout : Layout) (header table : List ℕ) (size : ℕ) where
   abbrev Says : Header → Type 0
   Says = Decided layout header table size
 
-  by-size : (w : Formed layout header size) → pageCount header ≤ 0x100 → (t : Bool) → eqb size (sizeSaid layout header table) ≡ t → Says asked
+  by-size : (w : WithForm layout header size) → pageCount header ≤ 0x100 → (t : Bool) → eqb size (sizeSaid layout header table) ≡ t
+      → Says asked
   by-size w h true e =
       let z = eqb-true size (sizeSaid layout header table) e in
       subst Says (right layout header table size (known w) h z) (sound (record { before = w; few = h; size-said = z }))
@@ -89,7 +87,7 @@ module _ (layout : Layout) (header table : List ℕ) (size : ℕ) where
       let z = eqb-false size (sizeSaid layout header table) e in
       subst Says (wrong-size layout header table size (known w) h z) (turned (TurnedBy.wrong-size w h z))
 
-  by-pages : (w : Formed layout header size) (t : Bool) → leb (pageCount header) 0x100 ≡ t → Says asked
+  by-pages : (w : WithForm layout header size) (t : Bool) → leb (pageCount header) 0x100 ≡ t → Says asked
   by-pages w true e = by-size w (leb-true (pageCount header) 0x100 e) (eqb size (sizeSaid layout header table)) refl
   by-pages w false e =
       let z = leb-false (pageCount header) 0x100 e in
@@ -126,7 +124,8 @@ module _ (layout : Layout) (header table : List ℕ) (size : ℕ) where
   turned-of (turned {r = r₀} t) r q = let e : r₀ ≡ r = cc in subst (TurnedBy layout header table size) e t
   turned-of (sound s) r q = let z : _≡_ {A = ℕ} 0 1 = cc in absurd (omega arith)
 
-  sound-of : {h : Header} → Says h → (form n : ℕ) → h ≡ Pages form n → SoundIn layout header table size × (formOctet header ≡ form) × (pageCount header ≡ n)
+  sound-of : {h : Header} → Says h → (form n : ℕ) → h ≡ Pages form n
+      → SoundIn layout header table size × (formOctet header ≡ form) × (pageCount header ≡ n)
   sound-of (turned t) form n q = let z : _≡_ {A = ℕ} 0 1 = cc in absurd (omega arith)
   sound-of (sound s) form n q = (s, cc, cc)
 
@@ -148,7 +147,9 @@ module _ (layout : Layout) (header table : List ℕ) (size : ℕ) where
   turned-in r = (λ q. turned-of decided r q, turned-refused)
 
   -- and otherwise header and table are right, with the form and the count that they say
-  pub sound-in : (form n : ℕ) → (headerIn layout header table size ≡ Pages form n) ↔ (SoundIn layout header table size × (formOctet header ≡ form) × (pageCount header ≡ n))
+  pub sound-in : (form n : ℕ)
+      → (headerIn layout header table size ≡ Pages form n)
+      ↔ (SoundIn layout header table size × (formOctet header ≡ form) × (pageCount header ≡ n))
   sound-in form n = (λ q. sound-of decided form n q, λ s. sound-header (s .0) ∙ ap₂ Pages (s .1) (s .2))
 
 -- ---- a whole case
@@ -158,7 +159,8 @@ module _ (case : List ℕ) where
   unfolding headerOf
   turned-exactly = turned-in version-1 (headerPart case) (tablePart version-1 case) (length case)
 
-  pub sound-exactly : (form n : ℕ) → (headerOf case ≡ Pages form n) ↔ (Sound case × (formOctet (headerPart case) ≡ form) × (pageCount (headerPart case) ≡ n))
+  pub sound-exactly : (form n : ℕ)
+      → (headerOf case ≡ Pages form n) ↔ (Sound case × (formOctet (headerPart case) ≡ form) × (pageCount (headerPart case) ≡ n))
   unfolding headerOf
   sound-exactly = sound-in version-1 (headerPart case) (tablePart version-1 case) (length case)
 

@@ -11,9 +11,9 @@ use borrow.Author.Tests.{eq-eqb, ne-eqb, eqb-true, eqb-false, le-leb, lt-leb}
 use Rattle.run.specs.Choice.{pick}
 use Rattle.sorts.specs.declared.Form.{Form}
 use Rattle.sorts.specs.declared.FormFound.the-variants.{Is, Nothing}
-use Rattle.sorts.specs.Forms.{formOf, inForm}
+use Rattle.sorts.specs.Forms.{formOf}
 use Rattle.case_table.specs.declared.Header.the-variants.{Refused, Pages}
-use Rattle.case_table.specs.Layout.{Layout, version-1, mark, versionOf, formOctet, pageCount, lengthsIn, total, sizeOf}
+use Rattle.case_table.specs.Layout.{Layout, version-1, mark, versionOf, formOctet, pageCount, lengthsIn, total}
 use Rattle.case_table.specs.Check.{begins, totalIn, headerIn, headerOf}
 use Rattle.case_table.specs.Grammar.{sizeSaid}
 use Rattle.case_table.proofs.Lengths.{lengths-take, total-few}
@@ -36,7 +36,8 @@ mark-short (a ∷ b ∷ []) h = by (eqb 0x54 a) (eqb 0x4C b)
     by false u = refl
 mark-short (a ∷ b ∷ c ∷ s) h = absurd (omega arith)
 
-pub mark-tests : (s : List ℕ) → 3 ≤ length s → begins mark s ≡ pick (eqb 0x54 (getD s 0 0)) (pick (eqb 0x4C (getD s 1 0)) (pick (eqb 0x58 (getD s 2 0)) true false) false) false
+pub mark-tests : (s : List ℕ) → 3 ≤ length s
+    → begins mark s ≡ pick (eqb 0x54 (getD s 0 0)) (pick (eqb 0x4C (getD s 1 0)) (pick (eqb 0x58 (getD s 2 0)) true false) false) false
 unfolding begins
 mark-tests [] h = absurd (omega arith)
 mark-tests (a ∷ []) h = absurd (omega arith)
@@ -90,14 +91,16 @@ module _ (layout : Layout) (header table : List ℕ) (size : ℕ) where
   other-version b n =
       sym (simp (le-leb 8 size (b .eight), b .marked, ne-eqb (versionOf header) (layout .version) n))
 
-  pub no-form : Begun header size → versionOf header ≡ layout .version → formOf (formOctet header) ≡ Nothing → Refused 11 ≡ headerIn layout header table size
+  pub no-form : Begun header size → versionOf header ≡ layout .version → formOf (formOctet header) ≡ Nothing
+      → Refused 11 ≡ headerIn layout header table size
   unfolding headerIn
   no-form b v q =
       sym (simp (le-leb 8 size (b .eight), b .marked, eq-eqb (versionOf header) (layout .version) v, q))
 
   module _ (k : Known layout header size) where
     -- what is left to ask then
-    by-pages : headerIn layout header table size ≡ pick (leb (pageCount header) 0x100) (pick (eqb size (sizeSaid layout header table)) (Pages (formOctet header) (pageCount header)) (Refused 15)) (Refused 15)
+    by-pages : headerIn layout header table size ≡ pick (leb (pageCount header) 0x100)
+        (pick (eqb size (sizeSaid layout header table)) (Pages (formOctet header) (pageCount header)) (Refused 15)) (Refused 15)
     unfolding headerIn
     by-pages =
         simp (le-leb 8 size (k .begun .eight), k .begun .marked, eq-eqb (versionOf header) (layout .version) (k .version), k .is-form)
@@ -108,7 +111,8 @@ module _ (layout : Layout) (header table : List ℕ) (size : ℕ) where
     pub wrong-size : pageCount header ≤ 0x100 → (size ≡ sizeSaid layout header table → ⊥) → Refused 15 ≡ headerIn layout header table size
     wrong-size h n = sym (by-pages ∙ simp (le-leb (pageCount header) 0x100 h, ne-eqb size _ n))
 
-    pub right : pageCount header ≤ 0x100 → size ≡ sizeSaid layout header table → Pages (formOctet header) (pageCount header) ≡ headerIn layout header table size
+    pub right : pageCount header ≤ 0x100 → size ≡ sizeSaid layout header table
+        → Pages (formOctet header) (pageCount header) ≡ headerIn layout header table size
     right h e = sym (by-pages ∙ simp (le-leb (pageCount header) 0x100 h, eq-eqb size _ e))
 
 -- ---- a whole case
@@ -119,13 +123,14 @@ unfolding headerOf headerIn
 header-parts case =
     let front : List ℕ = take 8 case in
     let e = lengths-take version-1 (pageCount front) (drop 8 case) in
-    ap (λ (l : List ℕ). pick (leb 8 (length case)) (pick (begins mark front) (pick (eqb (versionOf front) 1) (inForm (formOf (formOctet front)) (Refused 11) (λ f. pick (leb (pageCount front) 0x100) (pick (eqb (length case) (sizeOf version-1 (pageCount front) l)) (Pages (formOctet front) (pageCount front)) (Refused 15)) (Refused 15))) (Refused 14)) (Refused 13)) (Refused 13)) (sym e)
+    simp e
 
 pub case-short : (case : List ℕ) → length case < 8 → Refused 13 ≡ headerOf case
 unfolding headerOf
 case-short case h = short version-1 _ _ (length case) h
 
 -- the size that a table says, where it was added up
-pub sized : (header table : List ℕ) (pages sum : ℕ) → pages ≡ pageCount header → sum ≡ totalIn version-1 pages table → pages ≤ 256 → 8 + 2 * pages + sum ≡ sizeSaid version-1 header table
+pub sized : (header table : List ℕ) (pages sum : ℕ) → pages ≡ pageCount header → sum ≡ totalIn version-1 pages table → pages ≤ 256
+    → 8 + 2 * pages + sum ≡ sizeSaid version-1 header table
 sized header table pages sum p s h =
     omega (arith, p, s, total-few table pages h, ap (λ (k : ℕ). total (lengthsIn version-1 k table)) p)

@@ -11,12 +11,13 @@ use lib.Dec.{lit<}
 use lib.Seq.{getD-drop, getD-take, take-append-seam, drop-append-seam, drop-drop, length-take-le, drop-at}
 use Rattle.run.specs.Answers.{given}
 use Rattle.case_table.specs.declared.Header.the-variants.{Pages}
-use Rattle.case_table.specs.Layout.{version-1, mark, big16, pageCount, header, lengthsIn, total, ofForm, cut, headerPart, tablePart, caseOf, caseWith}
+use Rattle.case_table.specs.Layout.{version-1, mark, big16, pageCount, header, lengthsIn, total, ofForm, cut, headerPart, tablePart}
+use Rattle.case_table.specs.Layout.{caseOf, caseWith}
 use Rattle.case_table.specs.Check.{headerOf, lengthsOf, pagesOf}
 use Rattle.case_table.specs.Grammar.{Octets, CaseOf, Sound, sizeSaid}
 use Rattle.case_table.proofs.Lengths.{lengths-take}
 use Rattle.case_table.proofs.Checked.{sound-exactly}
-use Rattle.case_table.proofs.Standing.{Right, right-header, pages-cut, behindHeader}
+use Rattle.case_table.proofs.PagePlaces.{Right, right-header, pages-cut, behindHeader}
 use Rattle.sorts.specs.Forms.{IsForm}
 use Rattle.sorts.proofs.FormNumbers.{found-is}
 
@@ -112,7 +113,8 @@ pub case-parts : (form : ℕ) (pages : List (List ℕ)) → caseOf form pages �
 case-parts form pages =
     ap₂ (λ (n : ℕ) (l : List ℕ). header 1 form n ++ (l ++ joined pages)) (sym (length-map pages length)) (entries-are pages)
 
-pub parts-case : (form : ℕ) (lengths octets : List ℕ) → total lengths ≡ length octets → caseWith form lengths octets ≡ caseOf form (cut lengths octets)
+pub parts-case : (form : ℕ) (lengths octets : List ℕ) → total lengths ≡ length octets
+    → caseWith form lengths octets ≡ caseOf form (cut lengths octets)
 parts-case form lengths octets h =
     sym (case-parts form (cut lengths octets)
     ∙ ap₂ (caseWith form) (sizes-cut lengths octets (omega arith)) (joined-cut lengths octets h))
@@ -172,7 +174,8 @@ module _ (form : ℕ) (lengths octets : List ℕ) (i : IsForm form) (few : lengt
   pages-said =
       pages-cut (right-header whole form (length lengths) header-says)
       ∙ ap₂ (λ (ns s : List ℕ). ofForm form (cut ns s)) (table-says lengths octets)
-      (drop-at (header 1 form (length lengths) ++ given big16 lengths) octets (8 + 2 * length lengths) (omega (arith, table-length lengths)))
+      (drop-at (header 1 form (length lengths) ++ given big16 lengths) octets (8 + 2 * length lengths)
+      (omega (arith, table-length lengths)))
 
 -- ---- a case that is right is laid out so
 
@@ -205,14 +208,16 @@ header-octets (a ∷ b ∷ c ∷ d ∷ e ∷ g ∷ h ∷ i ∷ s) form pages o r
     cc
 
 -- a right case is the case of the parts that it says
-said-parts : (case : List ℕ) (form pages : ℕ) → Octets case → Right case form pages → case ≡ caseWith form (lengthsIn version-1 pages (behindHeader case)) (drop (8 + 2 * pages) case)
+said-parts : (case : List ℕ) (form pages : ℕ) → Octets case → Right case form pages
+    → case ≡ caseWith form (lengthsIn version-1 pages (behindHeader case)) (drop (8 + 2 * pages) case)
 said-parts case form pages o r =
     let t = table-again pages (behindHeader case) (octets-drop 8 case o) (omega (arith, r .size, length-drop 8 case)) in
     sym (take-append-drop 8 case)
     ∙ ap₂ _++_ (header-octets case form pages o r ∙ ap (header 1 form) (sym (lengths-count pages (behindHeader case))))
     (sym (take-append-drop (2 * pages) (behindHeader case)) ∙ ap₂ _++_ (sym t) (drop-drop (2 * pages) 8 case))
 
-said-size : (case : List ℕ) (form pages : ℕ) → Right case form pages → total (lengthsIn version-1 pages (behindHeader case)) ≡ length (drop (8 + 2 * pages) case)
+said-size : (case : List ℕ) (form pages : ℕ) → Right case form pages
+    → total (lengthsIn version-1 pages (behindHeader case)) ≡ length (drop (8 + 2 * pages) case)
 said-size case form pages r = omega (arith, r .size, length-drop (8 + 2 * pages) case)
 
 -- a page that a table cuts out has at most 65,535 octets
@@ -225,14 +230,16 @@ short-by (suc n) s t o page (List·Memᴰ·head p) =
     omega (arith, ap length p, length-take (0x100 * getD (take 2 s) 0 0 + getD (take 2 s) 1 0) t)
 short-by (suc n) s t o page (List·Memᴰ·tail m) = short-by n (drop 2 s) _ (octets-drop 2 s o) page m
 
-laid-out : (case : List ℕ) (form pages : ℕ) → Octets case → Right case form pages → CaseOf case form (cut (lengthsIn version-1 pages (behindHeader case)) (drop (8 + 2 * pages) case))
+laid-out : (case : List ℕ) (form pages : ℕ) → Octets case → Right case form pages
+    → CaseOf case form (cut (lengthsIn version-1 pages (behindHeader case)) (drop (8 + 2 * pages) case))
 laid-out case form pages o r =
+    let lengths = lengthsIn version-1 pages (behindHeader case) in
+    let octets = drop (8 + 2 * pages) case in
     record {
       is-form = found-is form (r .the-form) (r .is-form);
-      few = omega (arith, r .few, cut-count (lengthsIn version-1 pages (behindHeader case)) (drop (8 + 2 * pages) case), lengths-count pages (behindHeader case));
-      short = short-by pages (behindHeader case) (drop (8 + 2 * pages) case) (octets-drop 8 case o);
-      is =
-          said-parts case form pages o r ∙ parts-case form (lengthsIn version-1 pages (behindHeader case)) (drop (8 + 2 * pages) case) (said-size case form pages r);
+      few = omega (arith, r .few, cut-count lengths octets, lengths-count pages (behindHeader case));
+      short = short-by pages (behindHeader case) octets (octets-drop 8 case o);
+      is = said-parts case form pages o r ∙ parts-case form lengths octets (said-size case form pages r);
     }
 
 -- ---- the case of pages
@@ -258,13 +265,18 @@ module _ (case : List ℕ) (form : ℕ) (pages : List (List ℕ)) (laid : CaseOf
       ∙ ap (ofForm form) (cut-joined pages)
 
 -- Header and table are right exactly when the octets are the case of a form and pages.
-pub laid-exactly : (case : List ℕ) → Octets case → (form n : ℕ) → (headerOf case ≡ Pages form n) ↔ ((pages : List (List ℕ)) × (length pages ≡ n) × CaseOf case form pages)
+pub laid-exactly : (case : List ℕ) → Octets case → (form n : ℕ)
+    → (headerOf case ≡ Pages form n) ↔ ((pages : List (List ℕ)) × (length pages ≡ n) × CaseOf case form pages)
 laid-exactly case o form n = (forth, λ c. case-header case form (c .0) (c .2) ∙ ap (Pages form) (c .1))
   where
     forth : headerOf case ≡ Pages form n → (pages : List (List ℕ)) × (length pages ≡ n) × CaseOf case form pages
     forth q =
-        let r = right-header case form n q in
-        (cut (lengthsIn version-1 n (behindHeader case)) (drop (8 + 2 * n) case), cut-count (lengthsIn version-1 n (behindHeader case)) (drop (8 + 2 * n) case) ∙ lengths-count n (behindHeader case), laid-out case form n o r)
+        let lengths = lengthsIn version-1 n (behindHeader case) in
+        let octets = drop (8 + 2 * n) case in (
+          cut lengths octets,
+          cut-count lengths octets ∙ lengths-count n (behindHeader case),
+          laid-out case form n o (right-header case form n q),
+        )
 
 -- pages are told by their octets
 same-pages : (form form′ : ℕ) (pages pages′ : List (List ℕ)) → ofForm form pages ≡ ofForm form′ pages′ → pages ≡ pages′
@@ -272,7 +284,8 @@ same-pages form form′ pages pages′ e =
     sym (octets-of form pages) ∙ ap (map (λ (page : ℕ × List ℕ). page .1)) e ∙ octets-of form′ pages′
 
 -- They are so of one list of pages.
-pub one-case : (case : List ℕ) (form form′ : ℕ) (pages pages′ : List (List ℕ)) → CaseOf case form pages → CaseOf case form′ pages′ → (form ≡ form′) × (pages ≡ pages′)
+pub one-case : (case : List ℕ) (form form′ : ℕ) (pages pages′ : List (List ℕ)) → CaseOf case form pages → CaseOf case form′ pages′
+    → (form ≡ form′) × (pages ≡ pages′)
 one-case case form form′ pages pages′ a b =
     let q = sym (case-header case form pages a) ∙ case-header case form′ pages′ b in
     (cc, same-pages form form′ pages pages′ (sym (case-pages case form pages a) ∙ case-pages case form′ pages′ b))

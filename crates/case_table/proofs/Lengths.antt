@@ -37,7 +37,8 @@ lengths-take layout (suc n) s =
 
 -- ---- pages of one form are cut from the octets
 
-pub pages-cut-out : (form n : ℕ) (s octets : List ℕ) → pagesIn version-1 form n s octets ≡ ofForm form (cut (lengthsIn version-1 n s) octets)
+pub pages-cut-out : (form n : ℕ) (s octets : List ℕ)
+    → pagesIn version-1 form n s octets ≡ ofForm form (cut (lengthsIn version-1 n s) octets)
 unfolding pagesIn lengthsIn cut
 pages-cut-out form zero s octets = refl
 pages-cut-out form (suc n) s octets =
@@ -89,7 +90,8 @@ pub summed-none : (table : List ℕ) (n : ℕ) → Summed table n 0 0
 unfolding lengthsIn total
 summed-none table n = record { inside = omega arith; small = omega arith; is = refl }
 
-pub summed-turn : {table : List ℕ} {n i sum r : ℕ} → i < n → Summed table n i sum → (r ≡ number16 table (2 * i)) × (r < 0x10000) → Summed table n (i + 1) (sum + r)
+pub summed-turn : {table : List ℕ} {n i sum r : ℕ} → i < n → Summed table n i sum → (r ≡ number16 table (2 * i)) × (r < 0x10000)
+    → Summed table n (i + 1) (sum + r)
 summed-turn {table} {n} {i} {sum} {r} h s e =
     record {
       inside = omega arith;
@@ -97,11 +99,13 @@ summed-turn {table} {n} {i} {sum} {r} h s e =
       is = omega (arith, s .is, e .0, total-next i table);
     }
 
-pub summed-all : {table : List ℕ} {n i sum : ℕ} → n ≤ 256 → n ≤ i → Summed table n i sum → (sum ≡ totalIn version-1 n table) × (sum ≤ 65535 * n) × (sum ≤ 16776960)
+pub summed-all : {table : List ℕ} {n i sum : ℕ} → n ≤ 256 → n ≤ i → Summed table n i sum
+    → (sum ≡ totalIn version-1 n table) × (sum ≤ 65535 * n) × (sum ≤ 16776960)
 unfolding totalIn
 summed-all {table} {n} {i} {sum} f h s =
     let e : i ≡ n = omega (arith, s .inside) in
-    (s .is ∙ ap (λ (k : ℕ). total (lengthsIn version-1 k table)) e ∙ sym (rw (le-leb n 0x100 f)), omega (arith, s .small), omega (arith, s .small))
+    let q = ap (λ (k : ℕ). total (lengthsIn version-1 k table)) e in
+    (s .is ∙ q ∙ sym (rw (le-leb n 0x100 f)), omega (arith, s .small), omega (arith, s .small))
 
 pub total-many : (table : List ℕ) (n : ℕ) → 256 < n → _≡_ {A = ℕ} 0 (totalIn version-1 n table)
 unfolding totalIn

@@ -1,5 +1,6 @@
 mod Lengths
 mod Headers
 pub mod Checked
-pub mod Standing
+pub mod PagePlaces
 pub mod Laid
+pub mod OneAnswer

@@ -1,4 +1,4 @@
--- TO BE BELIEVED: which octets are a case, and how header and table turn others away, in document 01's words. Nothing here speaks of a
+-- To be believed: which octets are a case, and how header and table turn others away, in document 01's words. Nothing here speaks of a
 -- reader.
 -- Assumes nothing.
 use Prim.Native.Nat.{ℕ, _≤_, _<_}
@@ -33,7 +33,7 @@ pub record Versioned (layout : Layout) (header : List ℕ) (size : ℕ) : Type 0
   pub version : versionOf header ≡ layout .version
 
 -- nor 11
-pub record Formed (layout : Layout) (header : List ℕ) (size : ℕ) : Type 0 where
+pub record WithForm (layout : Layout) (header : List ℕ) (size : ℕ) : Type 0 where
   pub before : Versioned layout header size
   pub form : IsForm (formOctet header)
 
@@ -51,13 +51,13 @@ pub data TurnedBy (layout : Layout) (header table : List ℕ) (size : ℕ) : ℕ
   -- 11: "form not 1 to 3"
   no-form : Versioned layout header size → NoForm (formOctet header) → TurnedBy layout header table size 11
   -- 15: "over 256 pages, or size wrong"
-  over-256 : Formed layout header size → 0x100 < pageCount header → TurnedBy layout header table size 15
-  wrong-size : Formed layout header size → pageCount header ≤ 0x100 → (size ≡ sizeSaid layout header table → ⊥)
+  over-256 : WithForm layout header size → 0x100 < pageCount header → TurnedBy layout header table size 15
+  wrong-size : WithForm layout header size → pageCount header ≤ 0x100 → (size ≡ sizeSaid layout header table → ⊥)
       → TurnedBy layout header table size 15
 
 -- none of these
 pub record SoundIn (layout : Layout) (header table : List ℕ) (size : ℕ) : Type 0 where
-  pub before : Formed layout header size
+  pub before : WithForm layout header size
   pub few : pageCount header ≤ 0x100
   pub size-said : size ≡ sizeSaid layout header table
 

@@ -1,4 +1,4 @@
--- TO BE BELIEVED: the octets of a case (document 01, "The TLX case"), what they say, read from the left, and what they are when written.
+-- To be believed: the octets of a case (document 01, "The TLX case"), what they say, read from the left, and what they are when written.
 -- Assumes nothing.
 use Prim.Native.Nat.{ℕ, zero, suc, _+_, _*_, _/_, _%_}
 use mathlib.Core.List.{List, [], _∷_, _++_, map}

@@ -1,20 +1,22 @@
 -- The laws of what a case is written from: the lengths and the octets, entry after entry.
 -- Assumes nothing.
-use Prim.Native.Nat.{ℕ, zero, suc, _+_, _*_, _≤_, _<_}
+use Prim.Native.Nat.{ℕ, _+_, _*_, _≤_, _<_}
 use mathlib.Core.Path.{_≡_, refl, sym, ap, _∙_}
 use mathlib.Core.Bool.{Bool, true, false}
-use mathlib.Core.List.{List, [], _∷_, _++_, append-nil}
-use native.Mathlib.Nat.{zero-add, le-of-suc-le-suc}
+use mathlib.Core.List.{List, [], _∷_, _++_, List·Memᴰ, List·Memᴰ·head, List·Memᴰ·tail, List·Memᴰ·not-nil}
+use native.Mathlib.Nat.{zero-add}
 use native.Mathlib.Numerals.{add-one}
 use native.Mathlib.Omega.{arith}
 use lib.Dec.{eqb, leb}
 use lib.ListN.{length, take, drop, getD, drop-of-length-le}
-use lib.Seq.{drop-cons, take-suc, take-all, length-take-le}
+use lib.Seq.{take-suc, take-all, length-take-le}
 use borrow.Author.Tests.{leb-true, eqb-true, le-leb, lt-leb}
 use Rattle.run.specs.Choice.{pick}
 use Rattle.run.specs.Answers.{given}
 use Rattle.run.specs.Put.{Put}
-use Rattle.run.proofs.Answers.{given-append}
+use Rattle.run.proofs.Answers.{given-one}
+use Rattle.run.proofs.Choices.{both-true}
+use Rattle.run.proofs.FromPlace.{at-place}
 use Rattle.run.proofs.Puts.{put-none, put-both, put-as}
 use Rattle.case_table.specs.Layout.{total, big16}
 use Rattle.case_table.proofs.Laid.{table-length}
@@ -41,7 +43,7 @@ over-many lengths size h = sym (simp (lt-leb (length lengths) 0x100 h))
 module _ (lengths : List ℕ) (i sum : ℕ) (was : Tested lengths i sum) where
   module _ (h : i < length lengths) where
     on : drop i lengths ≡ getD lengths i 0 ∷ drop (i + 1) lengths
-    on = drop-cons lengths i 0 h ∙ ap (λ (k : ℕ). getD lengths i 0 ∷ drop k lengths) (sym (add-one i))
+    on = at-place lengths i h
 
     pub tested-turn : getD lengths i 0 ≤ 65535 → Tested lengths (i + 1) (sum + getD lengths i 0)
     unfolding noneOver total
@@ -70,42 +72,41 @@ module _ (lengths : List ℕ) (i sum : ℕ) (was : Tested lengths i sum) where
 
 -- ---- what fitting lengths are
 
-over-by : (most n : ℕ) (ns : List ℕ) (t : Bool) → leb n most ≡ t → (noneOver most ns ≡ true → (i : ℕ) → i < length ns → getD ns i 0 ≤ most) → pick t (noneOver most ns) false ≡ true → (i : ℕ) → i < length (n ∷ ns) → getD (n ∷ ns) i 0 ≤ most
-over-by most n ns true q ih e zero h = leb-true n most q
-over-by most n ns true q ih e (suc i) h = ih e i (le-of-suc-le-suc h)
-over-by most n ns false q ih e i h = let z : _≡_ {A = ℕ} 0 1 = cc in absurd (omega arith)
-
-pub none-over : (most : ℕ) (ns : List ℕ) → noneOver most ns ≡ true → (i : ℕ) → i < length ns → getD ns i 0 ≤ most
+-- the test holds exactly when no member is over
+pub none-over : (most : ℕ) (ns : List ℕ) → noneOver most ns ≡ true → (k : ℕ) → List·Memᴰ k ns → k ≤ most
 unfolding noneOver
-none-over most [] e i h = absurd (omega arith)
-none-over most (n ∷ ns) e i h = over-by most n ns (leb n most) refl (none-over most ns) e i h
+none-over most [] e k m = absurd (List·Memᴰ·not-nil m)
+none-over most (n ∷ ns) e k (List·Memᴰ·head p) = omega (arith, leb-true n most (both-true (leb n most) (noneOver most ns) e .0), p)
+none-over most (n ∷ ns) e k (List·Memᴰ·tail m) = none-over most ns (both-true (leb n most) (noneOver most ns) e .1) k m
+
+pub over-none : (most : ℕ) (ns : List ℕ) → ((k : ℕ) → List·Memᴰ k ns → k ≤ most) → noneOver most ns ≡ true
+unfolding noneOver
+over-none most [] h = refl
+over-none most (n ∷ ns) h =
+    ap (λ (t : Bool). pick t (noneOver most ns) false) (le-leb n most (h n (List·Memᴰ·head refl)))
+    ∙ over-none most ns (λ k m. h k (List·Memᴰ·tail m))
 
 pub record Fits (lengths : List ℕ) (size : ℕ) : Type 0 where
   pub few : length lengths ≤ 0x100
   pub short : noneOver 0xFFFF lengths ≡ true
   pub sum : total lengths ≡ size
 
+-- lengths that pass the test are such
 pub fits : (lengths : List ℕ) (size : ℕ) → fitting lengths size ≡ true → Fits lengths size
 unfolding fitting
-fits lengths size = by (leb (length lengths) 0x100) refl (noneOver 0xFFFF lengths) refl
-  where
-    by : (t : Bool) → leb (length lengths) 0x100 ≡ t → (u : Bool) → noneOver 0xFFFF lengths ≡ u → pick t (pick u (eqb (total lengths) size) false) false ≡ true → Fits lengths size
-    by true q true p e = record { few = leb-true (length lengths) 0x100 q; short = p; sum = eqb-true (total lengths) size e }
-    by true q false p e = let z : _≡_ {A = ℕ} 0 1 = cc in absurd (omega arith)
-    by false q u p e = let z : _≡_ {A = ℕ} 0 1 = cc in absurd (omega arith)
+fits lengths size e =
+    let few = both-true (leb (length lengths) 0x100) (pick (noneOver 0xFFFF lengths) (eqb (total lengths) size) false) e in
+    let short = both-true (noneOver 0xFFFF lengths) (eqb (total lengths) size) (few .1) in
+    record { few = leb-true (length lengths) 0x100 (few .0); short = short .0; sum = eqb-true (total lengths) size (short .1) }
 
-most-by : (n : ℕ) (ns : List ℕ) (t : Bool) → leb n 0xFFFF ≡ t → (noneOver 0xFFFF ns ≡ true → total ns ≤ 65535 * length ns) → pick t (noneOver 0xFFFF ns) false ≡ true → n + total ns ≤ 65535 * length (n ∷ ns)
-most-by n ns true q ih e = omega (arith, leb-true n 0xFFFF q, ih e)
-most-by n ns false q ih e = let z : _≡_ {A = ℕ} 0 1 = cc in absurd (omega arith)
-
-total-most : (ns : List ℕ) → noneOver 0xFFFF ns ≡ true → total ns ≤ 65535 * length ns
-unfolding total noneOver
-total-most [] e = omega arith
-total-most (n ∷ ns) e = most-by n ns (leb n 0xFFFF) refl (total-most ns) e
+total-most : (ns : List ℕ) → ((k : ℕ) → List·Memᴰ k ns → k ≤ 0xFFFF) → total ns ≤ 65535 * length ns
+unfolding total
+total-most [] h = omega arith
+total-most (n ∷ ns) h = omega (arith, h n (List·Memᴰ·head refl), total-most ns (λ k m. h k (List·Memᴰ·tail m)))
 
 -- fitting lengths are of few octets
 pub fits-small : (lengths : List ℕ) (size : ℕ) → Fits lengths size → size ≤ 16776960
-fits-small lengths size f = omega (arith, f .few, f .sum, total-most lengths (f .short))
+fits-small lengths size f = omega (arith, f .few, f .sum, total-most lengths (none-over 0xFFFF lengths (f .short)))
 
 -- ---- entries written, one after another
 
@@ -120,14 +121,13 @@ module _ (out₀ : List ℕ) (at : ℕ) (gives : ℕ → List ℕ) (ns : List �
   given-none = record { inside = omega arith; put = put-none out₀ at }
 
   given-on : (i : ℕ) → i < length ns → given gives (take (i + 1) ns) ≡ given gives (take i ns) ++ gives (getD ns i 0)
-  unfolding given
   given-on i h =
       ap (λ (k : ℕ). given gives (take k ns)) (add-one i)
       ∙ ap (given gives) (take-suc ns i 0 h)
-      ∙ given-append gives (take i ns) (getD ns i 0 ∷ [])
-      ∙ ap (λ (l : List ℕ). given gives (take i ns) ++ l) (append-nil (gives (getD ns i 0)))
+      ∙ given-one gives (take i ns) (getD ns i 0)
 
-  pub given-turn : (out : List ℕ) (i o : ℕ) → Given out i o → i < length ns → (out′ : List ℕ) (o′ : ℕ) → Put out o (gives (getD ns i 0)) out′ o′ → Given out′ (i + 1) o′
+  pub given-turn : (out : List ℕ) (i o : ℕ) → Given out i o → i < length ns
+      → (out′ : List ℕ) (o′ : ℕ) → Put out o (gives (getD ns i 0)) out′ o′ → Given out′ (i + 1) o′
   given-turn out i o was h out′ o′ p =
       record { inside = omega arith; put = put-as (sym (given-on i h)) (put-both (was .put) p) }
 

@@ -37,17 +37,22 @@ module _ (form : ℕ) (lengths octets case : List ℕ) where
     unfit r e q = (e ∙ sym (simp (is-form, q)), sym (simp (is-form, q)))
 
     module _ (fits : fitting lengths (length octets) ≡ true) where
-      pub short : (r : Answer) → r ≡ shortRoom (8 + 2 * length lengths + length octets) → length case < 8 + 2 * length lengths + length octets → Promised r case
+      pub short : (r : Answer) → r ≡ shortRoom (8 + 2 * length lengths + length octets)
+          → length case < 8 + 2 * length lengths + length octets → Promised r case
       unfolding writeCaseAnswer writeCaseOctets
       short r e h =
           let n = case-length form lengths octets in
           let l = lt-leb (length (caseWith form lengths octets)) (length case) (omega arith) in
           (e ∙ sym (simp (is-form, fits, l) (ap shortRoom n)), sym (simp (is-form, fits, l)))
 
-      pub written : 8 + 2 * length lengths + length octets ≤ length case → (a b d : List ℕ) (i j k : ℕ) → Put case 0 (header 1 form (length lengths)) a i → Put a i (given big16 lengths) b j → Put b j octets d k → Promised (answer 0 0 (length octets) (8 + 2 * length lengths + length octets)) d
+      pub written : 8 + 2 * length lengths + length octets ≤ length case → (a b d : List ℕ) (i j k : ℕ)
+          → Put case 0 (header 1 form (length lengths)) a i → Put a i (given big16 lengths) b j → Put b j octets d k
+          → Promised (answer 0 0 (length octets) (8 + 2 * length lengths + length octets)) d
       unfolding writeCaseAnswer writeCaseOctets
       written h a b d i j k p q r =
           let n = case-length form lengths octets in
           let m : length (caseWith form lengths octets) ≤ length case = omega arith in
-          let l = le-leb (length (caseWith form lengths octets)) (length case) m in
-          (sym (simp (is-form, fits, l) (ap (answer 0 0 (length octets)) n)), put-over (put-both p (put-both q r)) m ∙ sym (simp (is-form, fits, l)))
+          let l = le-leb (length (caseWith form lengths octets)) (length case) m in (
+            sym (simp (is-form, fits, l) (ap (answer 0 0 (length octets)) n)),
+            put-over (put-both p (put-both q r)) m ∙ sym (simp (is-form, fits, l)),
+          )

@@ -20,9 +20,9 @@ use Rattle.case_table.specs.declared.Header.the-variants.{Pages}
 use Rattle.case_table.specs.Layout.{total, ofForm, cut, caseWith}
 use Rattle.case_table.specs.Check.{headerOf, lengthsOf, pagesOf}
 use Rattle.case_table.specs.Grammar.{CaseOf}
-use Rattle.case_writing.specs.Table.{Parts, WriteCaseTable}
-use Rattle.case_writing.specs.FromParts.{noneOver, fitting, writtenAnswer, writeCaseAnswer, writeCaseOctets}
-use Rattle.case_writing.proofs.Parts.{fits}
+use Rattle.case_writing.specs.CaseWritingNumbers.{Parts, WriteCaseTable}
+use Rattle.case_writing.specs.FromParts.{fitting, writtenAnswer, writeCaseAnswer, writeCaseOctets}
+use Rattle.case_writing.proofs.Parts.{none-over, over-none, fits}
 use Rattle.case_writing.proofs.WaysOut.{case-length}
 use Rattle.case_table.proofs.Laid.{header-says, lengths-are, pages-said, joined-pages, parts-case, cut-count, joined-cut}
 use Rattle.sorts.specs.Forms.{IsForm}
@@ -30,37 +30,21 @@ use Rattle.sorts.proofs.FormNumbers.{found-is, is-found, none-exactly}
 
 -- ---- the test of the parts
 
-over-member : (n : ℕ) (ns : List ℕ) (t : Bool) → leb n 0xFFFF ≡ t → (noneOver 0xFFFF ns ≡ true → (k : ℕ) → List·Memᴰ k ns → k ≤ 0xFFFF) → pick t (noneOver 0xFFFF ns) false ≡ true → (k : ℕ) → List·Memᴰ k (n ∷ ns) → k ≤ 0xFFFF
-over-member n ns true q ih e k (List·Memᴰ·head p) = omega (arith, leb-true n 0xFFFF q, p)
-over-member n ns true q ih e k (List·Memᴰ·tail m) = ih e k m
-over-member n ns false q ih e k m = let z : _≡_ {A = ℕ} 0 1 = cc in absurd (omega arith)
-
-none-members : (ns : List ℕ) → noneOver 0xFFFF ns ≡ true → (k : ℕ) → List·Memᴰ k ns → k ≤ 0xFFFF
-unfolding noneOver
-none-members [] e k m = absurd (List·Memᴰ·not-nil m)
-none-members (n ∷ ns) e k m = over-member n ns (leb n 0xFFFF) refl (none-members ns) e k m
-
-members-none : (ns : List ℕ) → ((k : ℕ) → List·Memᴰ k ns → k ≤ 0xFFFF) → noneOver 0xFFFF ns ≡ true
-unfolding noneOver
-members-none [] h = refl
-members-none (n ∷ ns) h =
-    ap (λ (t : Bool). pick t (noneOver 0xFFFF ns) false) (le-leb n 0xFFFF (h n (List·Memᴰ·head refl)))
-    ∙ members-none ns (λ k m. h k (List·Memᴰ·tail m))
-
 pub parts-of : (lengths octets : List ℕ) → fitting lengths (length octets) ≡ true → Parts lengths octets
 parts-of lengths octets e =
     let f = fits lengths (length octets) e in
-    record { few = f .few; short = none-members lengths (f .short); sum = f .sum }
+    record { few = f .few; short = none-over 0xFFFF lengths (f .short); sum = f .sum }
 
 of-parts : (lengths octets : List ℕ) → Parts lengths octets → fitting lengths (length octets) ≡ true
 unfolding fitting
 of-parts lengths octets p =
-    simp (le-leb (length lengths) 0x100 (p .few), members-none lengths (p .short), eq-eqb (total lengths) (length octets) (p .sum))
+    simp (le-leb (length lengths) 0x100 (p .few), over-none 0xFFFF lengths (p .short), eq-eqb (total lengths) (length octets) (p .sum))
 
 -- ---- which answer, exactly
 
 -- the size of a written case: "8 + 2 x pages + the lengths"
-pub written-size : (form : ℕ) (lengths octets : List ℕ) → Parts lengths octets → length (caseWith form lengths octets) ≡ 8 + 2 * length lengths + total lengths
+pub written-size : (form : ℕ) (lengths octets : List ℕ) → Parts lengths octets
+    → length (caseWith form lengths octets) ≡ 8 + 2 * length lengths + total lengths
 written-size form lengths octets p = omega (arith, case-length form lengths octets, p .sum)
 
 unfit : (lengths octets : List ℕ) → (Parts lengths octets → ⊥) → fitting lengths (length octets) ≡ false
@@ -74,7 +58,23 @@ module _ (form : ℕ) (lengths octets case : List ℕ) where
   abbrev Row : Answer → List ℕ → Type 0
   Row = WriteCaseTable form lengths octets case
 
-  of-row : {a : Answer} {after : List ℕ} → Row a after → (writeCaseAnswer form lengths octets (length case) ≡ a) × (writeCaseOctets form lengths octets case ≡ after)
+  -- the written case, and what the lent octets hold with it
+  abbrev whole : List ℕ
+  whole = caseWith form lengths octets
+
+  abbrev held : Bool → List ℕ
+  held t = pick t (over case whole) case
+
+  abbrev fit : Bool
+  fit = fitting lengths (length octets)
+
+  abbrev roomy : Bool
+  roomy = leb (length whole) (length case)
+
+  abbrev Answered : Answer → List ℕ → Type 0
+  Answered a after = (writeCaseAnswer form lengths octets (length case) ≡ a) × (writeCaseOctets form lengths octets case ≡ after)
+
+  of-row : {a : Answer} {after : List ℕ} → Row a after → Answered a after
   unfolding writeCaseAnswer writeCaseOctets
   of-row (WriteCaseTable.no-form n) = let q = none-exactly form .1 n in (simp q, simp q)
   of-row (WriteCaseTable.no-parts i n) =
@@ -82,33 +82,35 @@ module _ (form : ℕ) (lengths octets case : List ℕ) where
   of-row (WriteCaseTable.short-room i p h) =
       let q = is-found form i .1 in
       let o = of-parts lengths octets p in
-      let l = lt-leb (length (caseWith form lengths octets)) (length case) h in
+      let l = lt-leb (length whole) (length case) h in
       (simp (q, o, l), simp (q, o, l))
   of-row (WriteCaseTable.written i p h) =
       let q = is-found form i .1 in
       let o = of-parts lengths octets p in
-      let l = le-leb (length (caseWith form lengths octets)) (length case) h in
+      let l = le-leb (length whole) (length case) h in
       (simp (q, o, l), simp (q, o, l))
 
-  by-room : IsForm form → Parts lengths octets → (t : Bool) → leb (length (caseWith form lengths octets)) (length case) ≡ t
-      → Row (pick t (answer 0 0 (length octets) (length (caseWith form lengths octets))) (shortRoom (length (caseWith form lengths octets)))) (pick t (over case (caseWith form lengths octets)) case)
+  by-room : IsForm form → Parts lengths octets → (t : Bool) → roomy ≡ t
+      → Row (pick t (answer 0 0 (length octets) (length whole)) (shortRoom (length whole))) (held t)
   by-room i p true e = WriteCaseTable.written i p (leb-true _ _ e)
   by-room i p false e = WriteCaseTable.short-room i p (leb-false _ _ e)
 
-  by-parts : IsForm form → (t : Bool) → fitting lengths (length octets) ≡ t
-      → Row (pick t (writtenAnswer (length octets) (length case) (caseWith form lengths octets)) (bare 15)) (pick t (pick (leb (length (caseWith form lengths octets)) (length case)) (over case (caseWith form lengths octets)) case) case)
-  by-parts i true e =
-      by-room i (parts-of lengths octets e) (leb (length (caseWith form lengths octets)) (length case)) refl
+  by-parts : IsForm form → (t : Bool) → fit ≡ t
+      → Row (pick t (writtenAnswer (length octets) (length case) whole) (bare 15)) (pick t (held roomy) case)
+  by-parts i true e = by-room i (parts-of lengths octets e) roomy refl
   by-parts i false e =
       WriteCaseTable.no-parts i (λ p. let w = of-parts lengths octets p in let z : _≡_ {A = ℕ} 0 1 = cc in omega arith)
 
   by-form : (y : FormFound) → formOf form ≡ y
-      → Row (inForm y (bare 11) (λ f. pick (fitting lengths (length octets)) (writtenAnswer (length octets) (length case) (caseWith form lengths octets)) (bare 15))) (inForm y case (λ f. pick (fitting lengths (length octets)) (pick (leb (length (caseWith form lengths octets)) (length case)) (over case (caseWith form lengths octets)) case) case))
-  by-form (Is f) q = by-parts (found-is form f q) (fitting lengths (length octets)) refl
+      → Row (inForm y (bare 11) (λ f. pick fit (writtenAnswer (length octets) (length case) whole) (bare 15)))
+      (inForm y case (λ f. pick fit (held roomy) case))
+  by-form (Is f) q = by-parts (found-is form f q) fit refl
   by-form Nothing q = WriteCaseTable.no-form (none-exactly form .0 q)
 
   -- "11, then 15 .., then 9", and else accepted: the four numbers, and what the lent octets hold after, are exactly those of the table
-  pub write-case-exactly : (a : Answer) (after : List ℕ) → ((writeCaseAnswer form lengths octets (length case) ≡ a) × (writeCaseOctets form lengths octets case ≡ after)) ↔ WriteCaseTable form lengths octets case a after
+  pub write-case-exactly : (a : Answer) (after : List ℕ)
+      → ((writeCaseAnswer form lengths octets (length case) ≡ a) × (writeCaseOctets form lengths octets case ≡ after))
+      ↔ WriteCaseTable form lengths octets case a after
   unfolding writeCaseAnswer writeCaseOctets
   write-case-exactly a after = (λ e. subst₂ Row (e .0) (e .1) (by-form (formOf form) refl), of-row)
 
@@ -142,10 +144,14 @@ module _ (form : ℕ) (lengths octets : List ℕ) (i : IsForm form) (p : Parts l
   written-pages = pages-said form lengths octets i (p .few) (p .sum)
 
   pub written-octets : given (λ (page : ℕ × List ℕ). page .1) (pagesOf (caseWith form lengths octets)) ≡ octets
-  written-octets = ap (given (λ (page : ℕ × List ℕ). page .1)) written-pages ∙ joined-pages form (cut lengths octets) ∙ joined-cut lengths octets (p .sum)
+  written-octets =
+      ap (given (λ (page : ℕ × List ℕ). page .1)) written-pages
+      ∙ joined-pages form (cut lengths octets)
+      ∙ joined-cut lengths octets (p .sum)
 
 -- "A refusal writes nothing to any buffer."
-pub refused-keeps : (form : ℕ) (lengths octets case : List ℕ) → (writeCaseAnswer form lengths octets (length case) .number ≡ 0 → ⊥) → writeCaseOctets form lengths octets case ≡ case
+pub refused-keeps : (form : ℕ) (lengths octets case : List ℕ) → (writeCaseAnswer form lengths octets (length case) .number ≡ 0 → ⊥)
+    → writeCaseOctets form lengths octets case ≡ case
 refused-keeps form lengths octets case = by (write-case-exactly form lengths octets case _ _ .0 (refl, refl))
   where
     by : {a : Answer} {after : List ℕ} → WriteCaseTable form lengths octets case a after → (a .number ≡ 0 → ⊥) → after ≡ case
@@ -155,7 +161,8 @@ refused-keeps form lengths octets case = by (write-case-exactly form lengths oct
     by (WriteCaseTable.written i p l) h = absurd (h refl)
 
 -- "Entries past the count stay."
-pub past-count : (form : ℕ) (lengths octets case : List ℕ) (k d : ℕ) → writeCaseAnswer form lengths octets (length case) .count ≤ k → getD (writeCaseOctets form lengths octets case) k d ≡ getD case k d
+pub past-count : (form : ℕ) (lengths octets case : List ℕ) (k d : ℕ) → writeCaseAnswer form lengths octets (length case) .count ≤ k
+    → getD (writeCaseOctets form lengths octets case) k d ≡ getD case k d
 past-count form lengths octets case k d = by (write-case-exactly form lengths octets case _ _ .0 (refl, refl))
   where
     by : {a : Answer} {after : List ℕ} → WriteCaseTable form lengths octets case a after → a .count ≤ k → getD after k d ≡ getD case k d

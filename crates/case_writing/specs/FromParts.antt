@@ -1,5 +1,5 @@
--- PROVED EQUAL to what Table says (proofs/Written): what writing a case from its parts comes to, its answer and what the lent octets hold
--- after.
+-- Proved equal to CaseWritingNumbers (proofs/Written): what writing a case from its parts comes to, its answer and what the lent
+-- octets hold after.
 -- Assumes nothing.
 use Prim.Native.Nat.{ℕ}
 use mathlib.Core.Bool.{Bool, true, false}

@@ -1,2 +1,2 @@
 pub mod FromParts
-pub mod Table
+pub mod CaseWritingNumbers

@@ -2,14 +2,13 @@
 -- Assumes nothing.
 use Prim.Native.Nat.{ℕ, suc, _≤_, _<_}
 use mathlib.Core.Path.{_≡_, refl, sym, ap, _∙_, subst}
-use mathlib.Core.Logic.{_↔_, _⊎_, inl, inr, ⊎-elim}
-use mathlib.Core.Bool.{Bool, true, false}
+use mathlib.Core.Logic.{_↔_, ⊎-elim}
+use mathlib.Core.Bool.{Bool}
 use mathlib.Core.List.{List, [], _∷_, _++_, append-assoc, append-nil}
 use native.Mathlib.Omega.{arith}
 use lib.ListN.{length, take, drop, length-append, take-append-drop}
 use lib.Seq.{take-append-seam, take-append-add, take-length}
-use lib.Dec.{eqb, lit≤}
-use borrow.Author.Tests.{eqb-true, eqb-false}
+use lib.Dec.{lit≤}
 use native.Mathlib.Numerals.{add-one}
 use Rattle.run.specs.Head.{Head, element, refused, none}
 use Rattle.sorts.specs.declared.Form.{Form}
@@ -25,14 +24,7 @@ use Rattle.element_words.specs.declared.Element.{Element}
 use Rattle.element_words.specs.Words.{sequenceElement}
 use Rattle.element_reading.specs.Grammar.{Awaits, Spells, Refuses, Continues}
 use Rattle.element_reading.specs.Reading.{headIn}
-use Rattle.element_reading.proofs.Reader.{reads, refuses-exactly-by, sequence-refused, refused-sequence}
-
-four-or : (n : ℕ) → (n ≡ 4) ⊎ (n ≡ 4 → ⊥)
-four-or n = go (eqb n 4) refl
-  where
-    go : (b : Bool) → eqb n 4 ≡ b → (n ≡ 4) ⊎ (n ≡ 4 → ⊥)
-    go true e = inl (eqb-true n 4 e)
-    go false e = inr (eqb-false n 4 e)
+use Rattle.element_reading.proofs.Reader.{is-or, reads, refuses-exactly-by, sequence-refused, refused-sequence}
 
 module _ (f : Form) where
   -- ---- an answer other than 4 does not change, whatever follows its deciding octet
@@ -43,7 +35,8 @@ module _ (f : Form) where
       ∙ ap (λ (x : List ℕ). x ++ u) (take-append-add p (l ∷ t) 1)
       ∙ append-assoc p (l ∷ []) u
 
-  sequence-stays : {o r d : ℕ} {t : List ℕ} → sortIn f o ≡ SequenceStart → RefusesSequence (o ∷ t) r d → (r ≡ 4 → ⊥) → (u : List ℕ) → Refuses f (take (suc d) (o ∷ t) ++ u) r d
+  sequence-stays : {o r d : ℕ} {t : List ℕ} → sortIn f o ≡ SequenceStart → RefusesSequence (o ∷ t) r d → (r ≡ 4 → ⊥) → (u : List ℕ)
+      → Refuses f (take (suc d) (o ∷ t) ++ u) r d
   sequence-stays {o} {r} {d} {t} s k n u =
       let h = stays (o ∷ t) r d (sequence-refused f o t r d s k) n u in
       Refuses.in-sequence s (refused-sequence f o (take d t ++ u) r d s h)
@@ -76,14 +69,20 @@ module _ (f : Form) where
 
   go-follower : {p : List ℕ} {m : ℕ} {u : Bool} → Awaits f p m u → Continues f p
   go-follower (Awaits.mark {o} {m} e) = (0x20 ∷ [], _, Spells.pair 0x20 (Awaits.mark e) (mark-space f o m e .1))
-  go-follower (Awaits.shifted-mark {s} {o} {m} s′ e) = (0x20 ∷ [], _, Spells.pair 0x20 (Awaits.shifted-mark s′ e) (shifted-mark-space f o m e .1))
-  go-follower (Awaits.underlined-mark {u} {o} {m} s e) = (0x20 ∷ [], _, Spells.pair 0x20 (Awaits.underlined-mark s e) (mark-space f o m e .1))
+  go-follower (Awaits.shifted-mark {s} {o} {m} s′ e) =
+      (0x20 ∷ [], _, Spells.pair 0x20 (Awaits.shifted-mark s′ e) (shifted-mark-space f o m e .1))
+  go-follower (Awaits.underlined-mark {u} {o} {m} s e) =
+      (0x20 ∷ [], _, Spells.pair 0x20 (Awaits.underlined-mark s e) (mark-space f o m e .1))
 
   go-sequence : {o r d : ℕ} {t : List ℕ} → sortIn f o ≡ SequenceStart → RefusesSequence (o ∷ t) r d → Continues f (take d (o ∷ t))
   go-sequence {o} {r} {d} {t} s k =
       let q : o ≡ CSI = sequence-is f o s in
-      let g = goes-on k in
-      (g .more, sequenceElement (g .found), subst (λ (x : List ℕ). Spells f x (sequenceElement (g .found))) (sym (g .whole)) (Spells.sequence (sym (ap (sortIn f) q) ∙ s) (g .spells)))
+      let g = goes-on k in (
+        g .more,
+        sequenceElement (g .found),
+        subst (λ (x : List ℕ). Spells f x (sequenceElement (g .found))) (sym (g .whole))
+            (Spells.sequence (sym (ap (sortIn f) q) ∙ s) (g .spells)),
+      )
 
   pub before-deciding : {s : List ℕ} {r d : ℕ} → Refuses f s r d → Continues f (take d s)
   before-deciding (Refuses.begins-nothing e) = go-space
@@ -134,7 +133,8 @@ module _ (f : Form) where
   unfinished-by (Refuses.high-after-underline s e) q = absurd (omega arith)
   unfinished-by (Refuses.in-sequence {o} {r} {d} {t} s k) q =
       cut-off t d
-      (subst (λ (b : ℕ). sequenceHead (b ∷ t) ≡ refused 4 d) (sequence-is f o s) (sequence-refused f o t r d s k ∙ ap (λ (n : ℕ). refused n d) q))
+      (subst (λ (b : ℕ). sequenceHead (b ∷ t) ≡ refused 4 d) (sequence-is f o s)
+      (sequence-refused f o t r d s k ∙ ap (λ (n : ℕ). refused n d) q))
 
   pub unfinished : {s : List ℕ} {d : ℕ} → Refuses f s 4 d → (d ≡ length s) × (length s ≤ 39)
   unfinished h = unfinished-by h refl
@@ -175,11 +175,12 @@ module _ (f : Form) where
   cut-by s c (element e k) q =
       let b = reads f .found s e k q in
       let p = reads f .finds (b .front) (b .rest ++ c .rest) e (b .spells) in
-      let z : headIn f (s ++ c .rest) ≡ element e (length (b .front)) = ap (headIn f) (ap (λ (x : List ℕ). x ++ c .rest) (b .whole) ∙ append-assoc (b .front) (b .rest) (c .rest)) ∙ p in
+      let z : headIn f (s ++ c .rest) ≡ element e (length (b .front)) =
+      ap (headIn f) (ap (λ (x : List ℕ). x ++ c .rest) (b .whole) ∙ append-assoc (b .front) (b .rest) (c .rest)) ∙ p in
       let y = spelt-head (c .spells) in
       let l : length (b .front) ≡ length (s ++ c .rest) = cc in
       absurd (omega (arith, length-append s (c .rest), ap length (b .whole), length-append (b .front) (b .rest), c .some-left))
-  cut-by s c (refused r d) q = ⊎-elim (λ e. four e) (λ n. absurd (other n)) (four-or r)
+  cut-by s c (refused r d) q = ⊎-elim (λ e. four e) (λ n. absurd (other n)) (is-or 4 r)
     where
       k : Refuses f s r d
       k = refuses-exactly-by f s r d .0 q
@@ -191,7 +192,8 @@ module _ (f : Form) where
 
       other : (r ≡ 4 → ⊥) → ⊥
       other n =
-          let p = refuses-exactly-by f (take (suc d) s ++ (drop (suc d) s ++ c .rest)) r d .1 (same-refusal k n (drop (suc d) s ++ c .rest)) in
+          let p =
+          refuses-exactly-by f (take (suc d) s ++ (drop (suc d) s ++ c .rest)) r d .1 (same-refusal k n (drop (suc d) s ++ c .rest)) in
           let z = ap (headIn f) (whole-again s (c .rest) d) in
           let y = spelt-head (c .spells) in
           let w : _≡_ {A = ℕ} 0 1 = cc in

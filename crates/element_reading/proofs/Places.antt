@@ -2,7 +2,7 @@
 -- Assumes nothing.
 use Prim.Native.Nat.{ℕ, _+_, _-_, _≤_, _<_}
 use mathlib.Core.Path.{_≡_, refl, ap, _∙_}
-use mathlib.Core.List.{List, [], _∷_, _++_}
+use mathlib.Core.List.{List, [], _∷_}
 use native.Mathlib.Omega.{arith}
 use lib.ListN.{length, drop, length-append, length-drop, drop-of-length-le}
 use lib.Dec.{lit≤}
@@ -72,7 +72,8 @@ module _ (f : Form) where
       go : (h : Head Element) → headIn f (drop at text) ≡ h → Inside text at (stepOf at h)
       go (element e k) q =
           let b = reads f .found (drop at text) e k q in
-          let z : length (drop at text) ≡ length (b .front) + length (b .rest) = ap length (b .whole) ∙ length-append (b .front) (b .rest) in
+          let z : length (drop at text) ≡ length (b .front) + length (b .rest) =
+          ap length (b .whole) ∙ length-append (b .front) (b .rest) in
           let s = reads f .some (b .front) e (b .spells) in
           let y = b .size in
           (omega arith, omega (arith, l))
@@ -84,7 +85,8 @@ module _ (f : Form) where
 
   -- ---- the four numbers of a step, as document 01 has them
 
-  pub element-answer : (text : List ℕ) (at : ℕ) (e : Element) (k : ℕ) → Begins (Spells f) (drop at text) e k → stepAnswer (stepAt f text at) ≡ answer 0 1 (at + k) (length (wordsOf e))
+  pub element-answer : (text : List ℕ) (at : ℕ) (e : Element) (k : ℕ) → Begins (Spells f) (drop at text) e k
+      → stepAnswer (stepAt f text at) ≡ answer 0 1 (at + k) (length (wordsOf e))
   unfolding stepAt
   element-answer text at e k b = ap (λ (h : Head Element). stepAnswer (stepOf at h)) (begins-head f b)
 

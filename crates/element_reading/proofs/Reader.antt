@@ -17,7 +17,7 @@ use Rattle.sorts.specs.declared.Sort.the-variants.{Graphic, Mark, Underline, Sh
 use Rattle.sorts.specs.declared.Found.{Found}
 use Rattle.sorts.specs.declared.Found.the-variants.{Char, Nothing}
 use Rattle.squares.specs.Squares.{squareOf}
-use Rattle.sorts.specs.Sorts.{sortIn, shiftedIn}
+use Rattle.sorts.specs.Sorts.{sortIn, shiftedIn, sortNumber}
 use Rattle.squares.proofs.SquareFacts.{follower-sorts}
 use Rattle.sorts.proofs.SortFacts.{sequence-is, refused-numbers, AfterShift, after-shift}
 use Rattle.sequence_reading.specs.Kinds.{CSI}
@@ -28,7 +28,16 @@ use Rattle.element_words.specs.declared.Element.{Element}
 use Rattle.element_words.specs.declared.Element.the-variants.{One}
 use Rattle.element_words.specs.Words.{graphicWord, sequenceElement}
 use Rattle.element_reading.specs.Grammar.{Awaits, Spells, MayNot, Refuses}
-use Rattle.element_reading.specs.Reading.{highOr3, pairHead, followerHead, shiftedSort, shiftedHead, underlinedSort, underlinedHead, asElement, headSort, headIn}
+use Rattle.element_reading.specs.Reading.{highOr, pairHead, followerHead, secondSort, shiftedHead, underlinedHead, asElement}
+use Rattle.element_reading.specs.Reading.{headSort, headIn}
+
+-- a number is this one, or not
+pub is-or : (k n : ℕ) → (n ≡ k) ⊎ (n ≡ k → ⊥)
+is-or k n = go (eqb n k) refl
+  where
+    go : (b : Bool) → eqb n k ≡ b → (n ≡ k) ⊎ (n ≡ k → ⊥)
+    go true e = inl (eqb-true n k e)
+    go false e = inr (eqb-false n k e)
 
 module _ (f : Form) where
   -- ---- what the definitions say is found
@@ -54,25 +63,28 @@ module _ (f : Form) where
   finds _ t _ (Spells.control e) = rw e
   finds _ t _ (Spells.sequence {o} {p} {q} s e) = rw (s, sequence-reads .finds (o ∷ p) t q e)
 
-  -- the number of a follower that is not listed
-  high-5 : (s : Sort) → s ≡ Refused 5 → highOr3 s ≡ 5
-  high-5 s e = rw e
+  -- the number of what may not stand there: 5's, or its own
+  only-high : (s : Sort) → sortNumber s ≡ 5 → s ≡ Refused 5
+  only-high (Graphic c) e = absurd (omega arith)
+  only-high (Mark m) e = absurd (omega arith)
+  only-high Underline e = absurd (omega arith)
+  only-high Shift e = absurd (omega arith)
+  only-high Control e = absurd (omega arith)
+  only-high SequenceStart e = absurd (omega arith)
+  only-high (Refused n) e = ap Refused e
 
-  not-high : (s : Sort) → (s ≡ Refused 5 → ⊥) → highOr3 s ≡ 3
-  not-high (Graphic c) n = refl
-  not-high (Mark m) n = refl
-  not-high Underline n = refl
-  not-high Shift n = refl
-  not-high Control n = refl
-  not-high SequenceStart n = refl
-  not-high (Refused k) n = rw (ne-eqb k 5 (λ e. n (ap Refused e)))
+  high-5 : (k : ℕ) (s : Sort) → s ≡ Refused 5 → highOr k s ≡ 5
+  high-5 k s e = rw e
+
+  not-high : (k : ℕ) (s : Sort) → (s ≡ Refused 5 → ⊥) → highOr k s ≡ k
+  not-high k s n = rw (ne-eqb (sortNumber s) 5 (λ e. n (only-high s e)))
 
   -- no listed follower has the top bit set in seven bits
   high-unlisted : (m l : ℕ) → sortIn f l ≡ Refused 5 → (x : Found) → squareOf m l ≡ x → x ≡ Nothing
   high-unlisted m l e (Char c) q = let h = follower-sorts f m l c q in let w : _≡_ {A = ℕ} 0 1 = cc in absurd (omega arith)
   high-unlisted m l e Nothing q = refl
 
-  may-not-3 : (s : Sort) (t : List ℕ) → MayNot s → underlinedSort f s t ≡ refused 3 1
+  may-not-3 : (s : Sort) (t : List ℕ) → MayNot s → secondSort f true 3 s t ≡ refused 3 1
   may-not-3 (Graphic c) t n = absurd n
   may-not-3 (Mark m) t n = absurd n
   may-not-3 Underline t n = refl
@@ -82,29 +94,34 @@ module _ (f : Form) where
   may-not-3 (Refused k) t n = rw (ne-eqb k 5 n)
 
   -- a sequence begins with 9B, and is refused as the grammar of sequences says
-  pub sequence-refused : (o : ℕ) (t : List ℕ) (r d : ℕ) → sortIn f o ≡ SequenceStart → RefusesSequence (o ∷ t) r d → sequenceHead (o ∷ t) ≡ refused r d
+  pub sequence-refused : (o : ℕ) (t : List ℕ) (r d : ℕ) → sortIn f o ≡ SequenceStart → RefusesSequence (o ∷ t) r d
+      → sequenceHead (o ∷ t) ≡ refused r d
   sequence-refused o t r d s k =
       let q : o ≡ CSI = sequence-is f o s in
-      subst (λ (b : ℕ). sequenceHead (b ∷ t) ≡ refused r d) (sym q) (refuses-exactly t r d .1 (subst (λ (b : ℕ). RefusesSequence (b ∷ t) r d) q k))
+      subst (λ (b : ℕ). sequenceHead (b ∷ t) ≡ refused r d) (sym q)
+      (refuses-exactly t r d .1 (subst (λ (b : ℕ). RefusesSequence (b ∷ t) r d) q k))
 
-  pub refused-sequence : (o : ℕ) (t : List ℕ) (r d : ℕ) → sortIn f o ≡ SequenceStart → sequenceHead (o ∷ t) ≡ refused r d → RefusesSequence (o ∷ t) r d
+  pub refused-sequence : (o : ℕ) (t : List ℕ) (r d : ℕ) → sortIn f o ≡ SequenceStart → sequenceHead (o ∷ t) ≡ refused r d
+      → RefusesSequence (o ∷ t) r d
   refused-sequence o t r d s k =
       let q : o ≡ CSI = sequence-is f o s in
-      subst (λ (b : ℕ). RefusesSequence (b ∷ t) r d) (sym q) (refuses-exactly t r d .0 (subst (λ (b : ℕ). sequenceHead (b ∷ t) ≡ refused r d) q k))
+      subst (λ (b : ℕ). RefusesSequence (b ∷ t) r d) (sym q)
+      (refuses-exactly t r d .0 (subst (λ (b : ℕ). sequenceHead (b ∷ t) ≡ refused r d) q k))
 
   refuses : {s : List ℕ} {r d : ℕ} → Refuses f s r d → headIn f s ≡ refused r d
   unfolding headIn shiftedHead underlinedHead followerHead
   refuses (Refuses.begins-nothing e) = rw e
   refuses (Refuses.codes-neither s e) = rw (s, e)
   refuses (Refuses.escape e) = rw e
-  refuses (Refuses.not-listed {p} {m} {u} l t w e n) = awaits-head w (l ∷ t) ∙ rw (e, not-high (sortIn f l) n)
+  refuses (Refuses.not-listed {p} {m} {u} l t w e n) = awaits-head w (l ∷ t) ∙ rw (e, not-high 3 (sortIn f l) n)
   refuses (Refuses.may-not {o = o} {t} s n) = rw s (may-not-3 (sortIn f o) t n)
   refuses (Refuses.ends-after-mark {p} w) = ap (headIn f) (sym (append-nil p)) ∙ awaits-head w []
   refuses (Refuses.ends-after-shift s) = rw s
   refuses (Refuses.ends-after-underline s) = rw s
   refuses (Refuses.high e) = rw e
   refuses (Refuses.high-after-shift s e) = rw (s, e)
-  refuses (Refuses.high-follower {p} {m} {u} l t w e) = awaits-head w (l ∷ t) ∙ rw (high-unlisted m l e (squareOf m l) refl, high-5 (sortIn f l) e)
+  refuses (Refuses.high-follower {p} {m} {u} l t w e) =
+      awaits-head w (l ∷ t) ∙ rw (high-unlisted m l e (squareOf m l) refl, high-5 3 (sortIn f l) e)
   refuses (Refuses.high-after-underline s e) = rw (s, e)
   refuses (Refuses.in-sequence {o} {r} {d} {t} s k) = rw (s, sequence-refused o t r d s k)
 
@@ -115,30 +132,18 @@ module _ (f : Form) where
     stop : {s : List ℕ} {r d : ℕ} → Refuses f s r d → View s (refused r d)
     end : View [] none
 
-  five-or : (n : ℕ) → (n ≡ 5) ⊎ (n ≡ 5 → ⊥)
-  five-or n = go (eqb n 5) refl
-    where
-      go : (b : Bool) → eqb n 5 ≡ b → (n ≡ 5) ⊎ (n ≡ 5 → ⊥)
-      go true e = inl (eqb-true n 5 e)
-      go false e = inr (eqb-false n 5 e)
-
   -- a sort is number 5's, or not
   high-or : (s : Sort) → (s ≡ Refused 5) ⊎ (s ≡ Refused 5 → ⊥)
-  high-or (Graphic c) = inr (λ e. let w : _≡_ {A = ℕ} 0 1 = cc in omega arith)
-  high-or (Mark m) = inr (λ e. let w : _≡_ {A = ℕ} 0 1 = cc in omega arith)
-  high-or Underline = inr (λ e. let w : _≡_ {A = ℕ} 0 1 = cc in omega arith)
-  high-or Shift = inr (λ e. let w : _≡_ {A = ℕ} 0 1 = cc in omega arith)
-  high-or Control = inr (λ e. let w : _≡_ {A = ℕ} 0 1 = cc in omega arith)
-  high-or SequenceStart = inr (λ e. let w : _≡_ {A = ℕ} 0 1 = cc in omega arith)
-  high-or (Refused n) = ⊎-elim (λ e. inl (ap Refused e)) (λ k. inr (λ e. k (cc))) (five-or n)
+  high-or s = ⊎-elim (λ e. inl (only-high s e)) (λ k. inr (λ e. k (ap sortNumber e))) (is-or 5 (sortNumber s))
 
-  view-listed : {p : List ℕ} {m : ℕ} {u : Bool} → Awaits f p m u → (l : ℕ) (t : List ℕ) (x : Found) → squareOf m l ≡ x → View (p ++ (l ∷ t)) (pairHead u (length p) x (sortIn f l))
+  view-listed : {p : List ℕ} {m : ℕ} {u : Bool} → Awaits f p m u → (l : ℕ) (t : List ℕ) (x : Found) → squareOf m l ≡ x
+      → View (p ++ (l ∷ t)) (pairHead u (length p) x (sortIn f l))
   view-listed {p} {m} {u} w l t (Char c) e =
       rw (← behind p t l, ← length-append p (l ∷ [])) (read t (Spells.pair l w e))
   view-listed {p} {m} {u} w l t Nothing e =
       ⊎-elim
-      (λ h. subst (λ (r : ℕ). View (p ++ (l ∷ t)) (refused r (length p))) (sym (high-5 (sortIn f l) h)) (stop (Refuses.high-follower l t w h)))
-      (λ n. subst (λ (r : ℕ). View (p ++ (l ∷ t)) (refused r (length p))) (sym (not-high (sortIn f l) n)) (stop (Refuses.not-listed l t w e n)))
+      (λ h. rw (high-5 3 (sortIn f l) h) (stop (Refuses.high-follower l t w h)))
+      (λ n. rw (not-high 3 (sortIn f l) n) (stop (Refuses.not-listed l t w e n)))
       (high-or (sortIn f l))
 
   view-follower : {p : List ℕ} {m : ℕ} {u : Bool} → Awaits f p m u → (t : List ℕ) → View (p ++ t) (followerHead f m u (length p) t)
@@ -146,50 +151,52 @@ module _ (f : Form) where
   view-follower {p} w [] = rw (append-nil p) (stop (Refuses.ends-after-mark w))
   view-follower {m = m} w (l ∷ t) = view-listed w l t (squareOf m l) refl
 
-  view-shifted-sort : {b : ℕ} → sortIn f b ≡ Shift → (o : ℕ) (t : List ℕ) (s : Sort) → shiftedIn f o ≡ s → AfterShift s → View (b ∷ o ∷ t) (shiftedSort f s t)
+  view-shifted-sort : {b : ℕ} → sortIn f b ≡ Shift → (o : ℕ) (t : List ℕ) (s : Sort) → shiftedIn f o ≡ s → AfterShift s
+      → View (b ∷ o ∷ t) (secondSort f false 1 s t)
   view-shifted-sort s o t (Graphic c) e a = read t (Spells.shifted s e)
   view-shifted-sort s o t (Mark m) e a = view-follower (Awaits.shifted-mark s e) t
   view-shifted-sort s o t Underline e a = absurd a
   view-shifted-sort s o t Shift e a = absurd a
   view-shifted-sort s o t Control e a = absurd a
   view-shifted-sort s o t SequenceStart e a = absurd a
-  view-shifted-sort {b} s o t (Refused n) e a =
-      ⊎-elim
-      (λ q. subst (λ (r : ℕ). View (b ∷ o ∷ t) (refused r 1)) (sym q) (stop (Refuses.codes-neither s (e ∙ ap Refused q))))
-      (λ q. subst (λ (r : ℕ). View (b ∷ o ∷ t) (refused r 1)) (sym q) (stop (Refuses.high-after-shift s (e ∙ ap Refused q))))
-      a
+  view-shifted-sort s o t (Refused n) e a =
+      ⊎-elim (λ q. rw q (stop (Refuses.codes-neither s (e ∙ ap Refused q))))
+      (λ q. rw q (stop (Refuses.high-after-shift s (e ∙ ap Refused q)))) a
 
   view-shifted : {b : ℕ} → sortIn f b ≡ Shift → (t : List ℕ) → View (b ∷ t) (shiftedHead f t)
   unfolding shiftedHead
   view-shifted s [] = stop (Refuses.ends-after-shift s)
   view-shifted s (o ∷ t) = view-shifted-sort s o t (shiftedIn f o) refl (after-shift f o (shiftedIn f o) refl)
 
-  view-underlined-sort : {b : ℕ} → sortIn f b ≡ Underline → (o : ℕ) (t : List ℕ) (s : Sort) → sortIn f o ≡ s → View (b ∷ o ∷ t) (underlinedSort f s t)
+  view-underlined-sort : {b : ℕ} → sortIn f b ≡ Underline → (o : ℕ) (t : List ℕ) (s : Sort) → sortIn f o ≡ s
+      → View (b ∷ o ∷ t) (secondSort f true 3 s t)
   view-underlined-sort s o t (Graphic c) e = read t (Spells.underlined s e)
   view-underlined-sort s o t (Mark m) e = view-follower (Awaits.underlined-mark s e) t
   view-underlined-sort s o t Underline e = stop (Refuses.may-not s (subst MayNot (sym e) tt))
   view-underlined-sort s o t Shift e = stop (Refuses.may-not s (subst MayNot (sym e) tt))
   view-underlined-sort s o t Control e = stop (Refuses.may-not s (subst MayNot (sym e) tt))
   view-underlined-sort s o t SequenceStart e = stop (Refuses.may-not s (subst MayNot (sym e) tt))
-  view-underlined-sort {b} s o t (Refused n) e =
+  view-underlined-sort s o t (Refused n) e =
       ⊎-elim
-      (λ q. subst (λ (r : ℕ). View (b ∷ o ∷ t) (refused r 1)) (sym (high-5 (Refused n) (ap Refused q))) (stop (Refuses.high-after-underline s (e ∙ ap Refused q))))
-      (λ k. subst (λ (r : ℕ). View (b ∷ o ∷ t) (refused r 1)) (sym (not-high (Refused n) (λ x. k (cc)))) (stop (Refuses.may-not s (subst MayNot (sym e) k))))
-      (five-or n)
+      (λ q. rw q (stop (Refuses.high-after-underline s (e ∙ ap Refused q))))
+      (λ k. rw (ne-eqb n 5 k) (stop (Refuses.may-not s (subst MayNot (sym e) k))))
+      (is-or 5 n)
 
   view-underlined : {b : ℕ} → sortIn f b ≡ Underline → (t : List ℕ) → View (b ∷ t) (underlinedHead f t)
   unfolding underlinedHead
   view-underlined s [] = stop (Refuses.ends-after-underline s)
   view-underlined s (o ∷ t) = view-underlined-sort s o t (sortIn f o) refl
 
-  view-sequence-front : {o k : ℕ} {t : List ℕ} {q : Sequence} → sortIn f o ≡ SequenceStart → (p rest : List ℕ) → o ∷ t ≡ p ++ rest → SpellsSequence p q → k ≡ length p → View (o ∷ t) (element (sequenceElement q) k)
+  view-sequence-front : {o k : ℕ} {t : List ℕ} {q : Sequence} → sortIn f o ≡ SequenceStart → (p rest : List ℕ) → o ∷ t ≡ p ++ rest
+      → SpellsSequence p q → k ≡ length p → View (o ∷ t) (element (sequenceElement q) k)
   view-sequence-front {q = q} s [] rest w h z = absurd (omega (arith, sequence-reads .some [] q h))
   view-sequence-front {o} {k} {t} {q} s (b ∷ p) rest w h z =
       let ob : o ≡ b = cc in
       let e : o ∷ t ≡ (o ∷ p) ++ rest = cc in
       rw (e, z) (read rest (Spells.sequence s (subst (λ (x : ℕ). SpellsSequence (x ∷ p) q) (sym ob) h)))
 
-  view-sequence : (o : ℕ) (t : List ℕ) → sortIn f o ≡ SequenceStart → (x : Head Sequence) → sequenceHead (o ∷ t) ≡ x → View (o ∷ t) (asElement x)
+  view-sequence : (o : ℕ) (t : List ℕ) → sortIn f o ≡ SequenceStart → (x : Head Sequence) → sequenceHead (o ∷ t) ≡ x
+      → View (o ∷ t) (asElement x)
   view-sequence o t s (element q k) e =
       let h = sequence-reads .found (o ∷ t) q k e in
       view-sequence-front s (h .front) (h .rest) (h .whole) (h .spells) (h .size)
@@ -205,10 +212,8 @@ module _ (f : Form) where
   view-sort o t SequenceStart e = view-sequence o t e (sequenceHead (o ∷ t)) refl
   view-sort o t (Refused n) e =
       ⊎-elim
-      (λ q. subst (λ (r : ℕ). View (o ∷ t) (refused r 0)) (sym q) (stop (Refuses.begins-nothing (e ∙ ap Refused q))))
-      (⊎-elim
-      (λ q. subst (λ (r : ℕ). View (o ∷ t) (refused r 0)) (sym q) (stop (Refuses.escape (e ∙ ap Refused q))))
-      (λ q. subst (λ (r : ℕ). View (o ∷ t) (refused r 0)) (sym q) (stop (Refuses.high (e ∙ ap Refused q)))))
+      (λ q. rw q (stop (Refuses.begins-nothing (e ∙ ap Refused q))))
+      (⊎-elim (λ q. rw q (stop (Refuses.escape (e ∙ ap Refused q)))) (λ q. rw q (stop (Refuses.high (e ∙ ap Refused q)))))
       (refused-numbers f o n e)
 
   view : (s : List ℕ) → View s (headIn f s)

@@ -3,19 +3,22 @@
 use Prim.Native.Nat.{ℕ, _+_, _*_, _-_, _≤_, _<_}
 use mathlib.Core.Path.{_≡_, refl, sym, ap, ap₂, _∙_}
 use mathlib.Core.Bool.{Bool}
-use mathlib.Core.List.{List, _∷_}
+use mathlib.Core.List.{List, [], _∷_}
 use native.Mathlib.Nat.{add-zero}
 use native.Mathlib.Omega.{arith}
 use lib.ListN.{length, getD, drop, drop-of-length-le}
+use types.Run.{OneOf, miss}
+use denote.Enum.Declared.{tagOf}
 use Rattle.run.specs.Head.{Head, element, refused, none}
 use Rattle.run.proofs.FromPlace.{at-place}
 use Rattle.sorts.specs.declared.Form.{Form}
+use Rattle.sorts.proofs.Sort.{the-type}
 use Rattle.sorts.specs.declared.Sort.{Sort}
-use Rattle.sorts.specs.declared.Sort.the-variants.{Refused}
+use Rattle.sorts.specs.declared.Sort.the-variants.{Graphic, Mark, Underline, Shift, Control, SequenceStart, Refused}
 use Rattle.sorts.specs.declared.Found.{Found}
 use Rattle.sorts.specs.declared.Found.the-variants.{Char, Nothing}
 use Rattle.squares.specs.Squares.{squareOf}
-use Rattle.sorts.specs.Sorts.{sortIn, shiftedIn}
+use Rattle.sorts.specs.Sorts.{sortIn}
 use Rattle.element_words.specs.declared.Element.the-variants.{One, Sequence as SequenceOf}
 use Rattle.sequence_reading.specs.declared.Values.{Values}
 use Rattle.sequence_reading.specs.declared.Reading.the-variants.{Whole, Refused as Bad, End as NoMore}
@@ -24,11 +27,13 @@ use Rattle.sequence_reading.specs.Reading.{sequenceHead, valuesOf, readingOf, r
 use Rattle.sequence_reading.proofs.Reader.{read-eight}
 use Rattle.element_reading.specs.declared.Step.the-variants.{Element as Read, Refused as Stopped, End}
 use Rattle.element_words.specs.Words.{graphicWord, headWord}
-use Rattle.element_reading.specs.Reading.{highOr3, pairHead, followerHead, shiftedSort, shiftedHead, underlinedSort, underlinedHead, asElement, headSort, headIn, stepOf, stepAt}
+use Rattle.element_reading.specs.Reading.{highOr, pairHead, followerHead, secondSort, secondHead, asElement}
+use Rattle.element_reading.specs.Reading.{headSort, headIn, stepOf, stepAt}
 
 -- ---- a control sequence
 module _ (at : ℕ) where
-  whole-by : (h : Head Sequence) (m l n k w : ℕ) (vs : Values) → readingOf at h ≡ Whole m l n vs k → w ≡ 0x4000000 + 0x10000 * m + 0x100 * l + n → Read (SequenceOf w n vs) k ≡ stepOf at (asElement h)
+  whole-by : (h : Head Sequence) (m l n k w : ℕ) (vs : Values) → readingOf at h ≡ Whole m l n vs k
+      → w ≡ 0x4000000 + 0x10000 * m + 0x100 * l + n → Read (SequenceOf w n vs) k ≡ stepOf at (asElement h)
   whole-by (element q j) m l n k w vs e z =
       let em : q .middle ≡ m = cc in
       let el : q .last ≡ l = cc in
@@ -56,7 +61,8 @@ module _ (at : ℕ) where
   count-by s none z m l n k vs e = let y : _≡_ {A = ℕ} 0 1 = cc in absurd (omega arith)
 
   module _ (text : List ℕ) where
-    pub sequence-whole : (m l n k w : ℕ) (vs : Values) → readingAt text at ≡ Whole m l n vs k → w ≡ 0x4000000 + 0x10000 * m + 0x100 * l + n → Read (SequenceOf w n vs) k ≡ stepOf at (asElement (sequenceHead (drop at text)))
+    pub sequence-whole : (m l n k w : ℕ) (vs : Values) → readingAt text at ≡ Whole m l n vs k → w ≡ 0x4000000 + 0x10000 * m + 0x100 * l + n
+        → Read (SequenceOf w n vs) k ≡ stepOf at (asElement (sequenceHead (drop at text)))
     unfolding readingAt
     sequence-whole m l n k w vs e z = whole-by (sequenceHead (drop at text)) m l n k w vs e z
 
@@ -73,21 +79,42 @@ module _ (at : ℕ) where
     sequence-ended e = ended-by (sequenceHead (drop at text)) e
 
     -- from the element's first octet on
-    pub sequence-first : at < length text → stepOf at (asElement (sequenceHead (drop at text))) ≡ stepOf at (asElement (sequenceHead (getD text at 0 ∷ drop (at + 1) text)))
+    pub sequence-first : at < length text
+        → stepOf at (asElement (sequenceHead (drop at text))) ≡ stepOf at (asElement (sequenceHead (getD text at 0 ∷ drop (at + 1) text)))
     sequence-first h = ap (λ (l : List ℕ). stepOf at (asElement (sequenceHead l))) (at-place text at h)
+
+-- ---- by the sort of an octet, each by its tag: all but a spacing character and a mark; all but a refusal
+
+abbrev others : List ℕ
+others = 2 ∷ 3 ∷ 4 ∷ 5 ∷ 6 ∷ []
+
+abbrev beginners : List ℕ
+beginners = 0 ∷ 1 ∷ 2 ∷ 3 ∷ 4 ∷ 5 ∷ []
+
+pub not-refused : (k : ℕ) (s : Sort) → OneOf beginners (tagOf the-type s) → k ≡ highOr k s
+not-refused k (Graphic c) o = refl
+not-refused k (Mark m) o = refl
+not-refused k Underline o = refl
+not-refused k Shift o = refl
+not-refused k Control o = refl
+not-refused k SequenceStart o = refl
+not-refused k (Refused n) o = absurd (miss beginners 6 tt o)
 
 module _ (f : Form) (text : List ℕ) where
   -- ---- a follower at i
   module _ (m : ℕ) (u : Bool) (at i : ℕ) (le : at ≤ i) where
     pub follower-end : length text ≤ i → Stopped 4 at i ≡ stepOf at (followerHead f m u (i - at) (drop i text))
     unfolding followerHead
-    follower-end h = sym (ap (λ (l : List ℕ). stepOf at (followerHead f m u (i - at) l)) (drop-of-length-le text h) ∙ ap (Stopped 4 at) (omega arith))
+    follower-end h =
+        sym (ap (λ (l : List ℕ). stepOf at (followerHead f m u (i - at) l)) (drop-of-length-le text h) ∙ ap (Stopped 4 at) (omega arith))
 
-    follower-here : i < length text → stepOf at (followerHead f m u (i - at) (drop i text)) ≡ stepOf at (pairHead u (i - at) (squareOf m (getD text i 0)) (sortIn f (getD text i 0)))
+    follower-here : i < length text
+        → stepOf at (followerHead f m u (i - at) (drop i text))
+        ≡ stepOf at (pairHead u (i - at) (squareOf m (getD text i 0)) (sortIn f (getD text i 0)))
     unfolding followerHead
     follower-here h = ap (λ (l : List ℕ). stepOf at (followerHead f m u (i - at) l)) (at-place text i h)
 
-    pub follower-not : (r : ℕ) → i < length text → squareOf m (getD text i 0) ≡ Nothing → r ≡ highOr3 (sortIn f (getD text i 0))
+    pub follower-not : (r : ℕ) → i < length text → squareOf m (getD text i 0) ≡ Nothing → r ≡ highOr 3 (sortIn f (getD text i 0))
         → Stopped r at i ≡ stepOf at (followerHead f m u (i - at) (drop i text))
     follower-not r h e q =
         let n : i ≡ at + (i - at) = omega arith in
@@ -103,33 +130,33 @@ module _ (f : Form) (text : List ℕ) where
 
   -- ---- after SS2 and after CC
   module _ (at : ℕ) where
-    pub shifted-end : length text ≤ at + 1 → Stopped 4 at (at + 1) ≡ stepOf at (shiftedHead f (drop (at + 1) text))
-    unfolding shiftedHead
-    shifted-end h = sym (ap (λ (l : List ℕ). stepOf at (shiftedHead f l)) (drop-of-length-le text h))
+    module _ (u : Bool) (k : ℕ) (sort : ℕ → Sort) where
+      pub second-end : length text ≤ at + 1 → Stopped 4 at (at + 1) ≡ stepOf at (secondHead f u k sort (drop (at + 1) text))
+      second-end h = sym (ap (λ (l : List ℕ). stepOf at (secondHead f u k sort l)) (drop-of-length-le text h))
 
-    pub shifted-here : (s : Sort) → at + 1 < length text → shiftedIn f (getD text (at + 1) 0) ≡ s
-        → stepOf at (shiftedSort f s (drop (at + 2) text)) ≡ stepOf at (shiftedHead f (drop (at + 1) text))
-    unfolding shiftedHead
-    shifted-here s h e =
-        let n : at + 1 + 1 ≡ at + 2 = omega arith in
-        sym (ap (λ (l : List ℕ). stepOf at (shiftedHead f l)) (at-place text (at + 1) h)
-        ∙ ap₂ (λ (x : Sort) (k : ℕ). stepOf at (shiftedSort f x (drop k text))) e n)
+      pub second-here : (s : Sort) → at + 1 < length text → s ≡ sort (getD text (at + 1) 0)
+          → stepOf at (secondSort f u k s (drop (at + 2) text)) ≡ stepOf at (secondHead f u k sort (drop (at + 1) text))
+      second-here s h e =
+          let n : at + 2 ≡ at + 1 + 1 = omega arith in
+          ap₂ (λ (x : Sort) (i : ℕ). stepOf at (secondSort f u k x (drop i text))) e n
+          ∙ sym (ap (λ (l : List ℕ). stepOf at (secondHead f u k sort l)) (at-place text (at + 1) h))
 
-    pub underlined-end : length text ≤ at + 1 → Stopped 4 at (at + 1) ≡ stepOf at (underlinedHead f (drop (at + 1) text))
-    unfolding underlinedHead
-    underlined-end h = sym (ap (λ (l : List ℕ). stepOf at (underlinedHead f l)) (drop-of-length-le text h))
+    -- neither a spacing character nor a mark stands behind SS2 or CC
+    pub second-other : (u : Bool) (k : ℕ) (t : List ℕ) (s : Sort) → OneOf others (tagOf the-type s)
+        → Stopped (highOr k s) at (at + 1) ≡ stepOf at (secondSort f u k s t)
+    second-other u k t (Graphic c) o = absurd (miss others 0 tt o)
+    second-other u k t (Mark m) o = absurd (miss others 1 tt o)
+    second-other u k t Underline o = refl
+    second-other u k t Shift o = refl
+    second-other u k t Control o = refl
+    second-other u k t SequenceStart o = refl
+    second-other u k t (Refused n) o = refl
 
-    pub underlined-here : (s : Sort) → at + 1 < length text → sortIn f (getD text (at + 1) 0) ≡ s
-        → stepOf at (underlinedSort f s (drop (at + 2) text)) ≡ stepOf at (underlinedHead f (drop (at + 1) text))
-    unfolding underlinedHead
-    underlined-here s h e =
-        let n : at + 1 + 1 ≡ at + 2 = omega arith in
-        sym (ap (λ (l : List ℕ). stepOf at (underlinedHead f l)) (at-place text (at + 1) h)
-        ∙ ap₂ (λ (x : Sort) (k : ℕ). stepOf at (underlinedSort f x (drop k text))) e n)
-
-    -- the follower of a mark behind SS2 or CC
-    pub follower-second : (m : ℕ) (u : Bool) → stepOf at (followerHead f m u (at + 2 - at) (drop (at + 2) text)) ≡ stepOf at (followerHead f m u 2 (drop (at + 2) text))
-    follower-second m u = ap (λ (d : ℕ). stepOf at (followerHead f m u d (drop (at + 2) text))) (let n : at + 2 - at ≡ 2 = omega arith in n)
+    -- the follower of a mark, d octets behind the first
+    pub follower-behind : (d m : ℕ) (u : Bool)
+        → stepOf at (followerHead f m u (at + d - at) (drop (at + d) text)) ≡ stepOf at (followerHead f m u d (drop (at + d) text))
+    follower-behind d m u =
+        ap (λ (k : ℕ). stepOf at (followerHead f m u k (drop (at + d) text))) (let n : at + d - at ≡ d = omega arith in n)
 
     -- ---- at the element's first octet
     pub none-left : length text ≤ at → End ≡ stepAt f text at
@@ -142,9 +169,6 @@ module _ (f : Form) (text : List ℕ) where
     first-here s h e =
         sym (ap (λ (l : List ℕ). stepOf at (headIn f l)) (at-place text at h)
         ∙ ap (λ (x : Sort). stepOf at (headSort f x (getD text at 0) (drop (at + 1) text))) e)
-
-    pub follower-first : (m : ℕ) (u : Bool) → stepOf at (followerHead f m u (at + 1 - at) (drop (at + 1) text)) ≡ stepOf at (followerHead f m u 1 (drop (at + 1) text))
-    follower-first m u = ap (λ (d : ℕ). stepOf at (followerHead f m u d (drop (at + 1) text))) (let n : at + 1 - at ≡ 1 = omega arith in n)
 
     pub refused-here : (n : ℕ) → at < length text → sortIn f (getD text at 0) ≡ Refused n → Stopped n at at ≡ stepAt f text at
     refused-here n h e = ap (Stopped n at) (sym (add-zero at)) ∙ first-here (Refused n) h e

@@ -1,6 +1,7 @@
 -- To be believed: one element, in the words of document 01. Which octets spell which element in a form, and which octets are refused,
--- with which number at which octet. Nothing here speaks of a reader. What an octet is in a form is the alphabet's `sortIn`, and after
--- SS2 `shiftedIn`. Assumes nothing.
+-- with which number at which octet. Nothing here speaks of a reader. What an octet is in a form is `sortIn` of crate `sorts`, and after
+-- SS2 `shiftedIn`.
+-- Assumes nothing.
 use Prim.Native.Nat.{ℕ}
 use mathlib.Core.Path.{_≡_}
 use mathlib.Core.Bool.{Bool, true, false}

@@ -1,4 +1,5 @@
--- Proved equal to the grammar (Reader: reads, refuses-exactly-by): what the reader of an element answers.
+-- Proved equal to the grammar (Reader: reads, refuses-exactly-by): what the reader of an element answers. To be believed: `stepAnswer`, 01's
+-- number and values of each answer.
 -- Assumes nothing.
 use Prim.Native.Nat.{ℕ, _+_}
 use mathlib.Core.Bool.{Bool, true, false}
@@ -15,7 +16,7 @@ use Rattle.sorts.specs.declared.Sort.the-variants.{Graphic, Mark, Underline, Sh
 use Rattle.sorts.specs.declared.Found.{Found}
 use Rattle.sorts.specs.declared.Found.the-variants.{Char, Nothing}
 use Rattle.squares.specs.Squares.{squareOf}
-use Rattle.sorts.specs.Sorts.{sortIn, shiftedIn}
+use Rattle.sorts.specs.Sorts.{sortIn, shiftedIn, sortNumber}
 use Rattle.sequence_reading.specs.Grammar.{Sequence}
 use Rattle.sequence_reading.specs.Reading.{sequenceHead}
 use Rattle.element_words.specs.declared.Element.{Element}
@@ -24,53 +25,41 @@ use Rattle.element_reading.specs.declared.Step.{Step}
 use Rattle.element_reading.specs.declared.Step.the-variants.{Element as Read, Refused as Stopped, End}
 use Rattle.element_words.specs.Words.{graphicWord, controlWord, sequenceElement, wordsOf}
 
--- 5 for an octet of 80 or above in seven bits, else 3
-abbrev pub highOr3 : Sort → ℕ
-highOr3 (Graphic c) = 3
-highOr3 (Mark m) = 3
-highOr3 Underline = 3
-highOr3 Shift = 3
-highOr3 Control = 3
-highOr3 SequenceStart = 3
-highOr3 (Refused n) = pick (eqb n 5) 5 3
+-- "at one octet 5 goes first": 5 for an octet of 80 or above in seven bits, else the number of what may not stand there
+abbrev pub highOr : ℕ → Sort → ℕ
+highOr k s = pick (eqb (sortNumber s) 5) 5 k
 
 -- a follower, d octets behind the element's first, that a mark has or has not
 abbrev pub pairHead : Bool → ℕ → Found → Sort → Head Element
 pairHead u d (Char c) s = element (One (graphicWord u c)) (d + 1)
-pairHead u d Nothing s = refused (highOr3 s) d
+pairHead u d Nothing s = refused (highOr 3 s) d
 
 -- what follows a mark
 unfoldable pub followerHead : Form → ℕ → Bool → ℕ → List ℕ → Head Element
 followerHead f m u d [] = refused 4 d
 followerHead f m u d (l ∷ t) = pairHead u d (squareOf m l) (sortIn f l)
 
--- what follows SS2
-abbrev pub shiftedSort : Form → Sort → List ℕ → Head Element
-shiftedSort f (Graphic c) t = element (One (graphicWord false c)) 2
-shiftedSort f (Mark m) t = followerHead f m false 2 t
-shiftedSort f Underline t = refused 1 1
-shiftedSort f Shift t = refused 1 1
-shiftedSort f Control t = refused 1 1
-shiftedSort f SequenceStart t = refused 1 1
-shiftedSort f (Refused n) t = refused n 1
+-- what follows SS2 or CC, by its sort: a spacing character, a mark, or what may not follow, refused with the number k or 5
+abbrev pub secondSort : Form → Bool → ℕ → Sort → List ℕ → Head Element
+secondSort f u k (Graphic c) t = element (One (graphicWord u c)) 2
+secondSort f u k (Mark m) t = followerHead f m u 2 t
+secondSort f u k Underline t = refused k 1
+secondSort f u k Shift t = refused k 1
+secondSort f u k Control t = refused k 1
+secondSort f u k SequenceStart t = refused k 1
+secondSort f u k (Refused n) t = refused (highOr k (Refused n)) 1
 
+abbrev pub secondHead : Form → Bool → ℕ → (ℕ → Sort) → List ℕ → Head Element
+secondHead f u k sort [] = refused 4 1
+secondHead f u k sort (o ∷ t) = secondSort f u k (sort o) t
+
+-- what follows SS2
 unfoldable pub shiftedHead : Form → List ℕ → Head Element
-shiftedHead f [] = refused 4 1
-shiftedHead f (o ∷ t) = shiftedSort f (shiftedIn f o) t
+shiftedHead f s = secondHead f false 1 (shiftedIn f) s
 
 -- what follows CC
-abbrev pub underlinedSort : Form → Sort → List ℕ → Head Element
-underlinedSort f (Graphic c) t = element (One (graphicWord true c)) 2
-underlinedSort f (Mark m) t = followerHead f m true 2 t
-underlinedSort f Underline t = refused 3 1
-underlinedSort f Shift t = refused 3 1
-underlinedSort f Control t = refused 3 1
-underlinedSort f SequenceStart t = refused 3 1
-underlinedSort f (Refused n) t = refused (pick (eqb n 5) 5 3) 1
-
 unfoldable pub underlinedHead : Form → List ℕ → Head Element
-underlinedHead f [] = refused 4 1
-underlinedHead f (o ∷ t) = underlinedSort f (sortIn f o) t
+underlinedHead f s = secondHead f true 3 (sortIn f) s
 
 -- a control sequence as an element
 abbrev pub asElement : Head Sequence → Head Element

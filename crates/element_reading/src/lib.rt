@@ -5,12 +5,14 @@ use sorts::Form;
 use sorts::Found;
 use sorts::Sort;
 ghost use mathlib.Core.Path.{_≡_};
-ghost use Prim.Native.Nat.{_+_, _-_, _*_, _≤_, _<_};
+ghost use Prim.Native.Nat.{ℕ, _+_, _-_, _*_, _≤_, _<_};
 ghost use lib.ListN.{length, drop};
+ghost use Rattle.sorts.specs.declared.Sort.the-variants.{Graphic};
 ghost use Rattle.sequence_reading.specs.Reading.{sequenceHead};
 ghost use Rattle.element_words.specs.Words.{graphicWord};
 ghost use Rattle.element_reading.specs.declared.Step.the-variants.{Refused as Stopped};
-ghost use Rattle.element_reading.specs.Reading.{highOr3, followerHead, shiftedHead, underlinedHead, asElement, stepOf, stepAt};
+ghost use Rattle.element_reading.specs.Reading.{highOr, followerHead, secondSort, shiftedHead, underlinedHead, asElement};
+ghost use Rattle.element_reading.specs.Reading.{stepOf, stepAt};
 
 // What stands at a place.
 pub enum Step {
@@ -48,23 +50,18 @@ fn refused_at(number: usize, place: usize, count: usize) -> Step
     }
 }
 
-// 01: "at one octet 5 goes first"; else a follower that is not listed is 3.
-fn high_or_3(sort: Sort) -> usize
-    ensures { λ r. ⌜ r ≡ highOr3 sort ⌝ }
+// 01: "at one octet 5 goes first"; else the number of what may not stand there.
+fn high_or(sort: Sort, number: usize) -> usize
+    ensures { λ r. ⌜ r ≡ highOr number sort ⌝ }
 {
     match sort {
-        Sort::Graphic(_) => 3,
-        Sort::Mark(_) => 3,
-        Sort::Underline => 3,
-        Sort::Shift => 3,
-        Sort::Control => 3,
-        Sort::SequenceStart => 3,
         Sort::Refused(n) => {
             if n == 5 {
                 return 5;
             }
-            3
+            number
         }
+        _ => number,
     }
 }
 
@@ -79,9 +76,21 @@ fn follower_step(form: Form, mark: u8, under: bool, text: &[u8], at: usize, i: u
     let l = text[i];
     let found = squares::paired(mark, l);
     let Found::Char(c) = found else {
-        return refused_at(high_or_3(sorts::sort_in(form, l)), at, i);
+        return refused_at(high_or(sorts::sort_in(form, l), 3), at, i);
     };
     Step::Element(Element::One(graphic_word(under, c)), i + 1)
+}
+
+// What follows the SS2 or CC at `at`, by the sort of the octet there; what may not follow is refused with a number.
+fn second_step(form: Form, sort: Sort, under: bool, number: usize, text: &[u8], at: usize) -> Step
+    requires { ⌜ (at + 1 < length (now text)) × ((c : ℕ) → sort ≡ Graphic c → c < 0x10000) ⌝ }
+    ensures { λ r. ⌜ r ≡ stepOf at (secondSort form under number sort (drop (at + 2) (now (text .entry)))) ⌝ }
+{
+    match sort {
+        Sort::Graphic(c) => Step::Element(Element::One(graphic_word(under, c)), at + 2),
+        Sort::Mark(m) => follower_step(form, m, under, text, at, at + 2),
+        _ => refused_at(high_or(sort, number), at, at + 1),
+    }
 }
 
 // What follows the SS2 at `at`. 01: SS2 stands "before the supplementary octet only; the letter of a pair follows bare".
@@ -93,16 +102,7 @@ fn shift_step(form: Form, text: &[u8], at: usize) -> Step
     if text.len() <= i {
         return refused_at(4, at, i);
     }
-    let sort = sorts::sort_shifted(form, text[i]);
-    match sort {
-        Sort::Graphic(c) => Step::Element(Element::One(c), at + 2),
-        Sort::Mark(m) => follower_step(form, m, false, text, at, at + 2),
-        Sort::Underline => refused_at(1, at, i),
-        Sort::Shift => refused_at(1, at, i),
-        Sort::Control => refused_at(1, at, i),
-        Sort::SequenceStart => refused_at(1, at, i),
-        Sort::Refused(n) => refused_at(n, at, i),
-    }
+    second_step(form, sorts::sort_shifted(form, text[i]), false, 1, text, at)
 }
 
 // What follows the CC at `at`. 01: "CC stands before a spacing character, or before a mark with its follower."
@@ -114,16 +114,7 @@ fn underline_step(form: Form, text: &[u8], at: usize) -> Step
     if text.len() <= i {
         return refused_at(4, at, i);
     }
-    let sort = sorts::sort_in(form, text[i]);
-    match sort {
-        Sort::Graphic(c) => Step::Element(Element::One(graphic_word(true, c)), at + 2),
-        Sort::Mark(m) => follower_step(form, m, true, text, at, at + 2),
-        Sort::Underline => refused_at(3, at, i),
-        Sort::Shift => refused_at(3, at, i),
-        Sort::Control => refused_at(3, at, i),
-        Sort::SequenceStart => refused_at(3, at, i),
-        Sort::Refused(n) => refused_at(high_or_3(Sort::Refused(n)), at, i),
-    }
+    second_step(form, sorts::sort_in(form, text[i]), true, 3, text, at)
 }
 
 // 01: "Sequence: 2^26 + 65536 x intermediate (0 if none) + 256 x final + number of values".

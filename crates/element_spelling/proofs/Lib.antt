@@ -1,3 +1,4 @@
 mod Steps
 pub mod Writer
 pub mod OneAnswer
+pub mod SpeltSizes

@@ -30,25 +30,26 @@ use Rattle.element_words.specs.declared.Element.the-variants.{One, Sequence as 
 use Rattle.element_words.specs.Words.{sequenceOf, isSequence}
 use Rattle.element_words.proofs.Words.{kept-values}
 use Rattle.element_words.proofs.HeadWords.{is-true}
-use Rattle.element_spelling.specs.ElementOctets.{CC, bareSort, afterCC, spellWord, spellSequenceWords, spellElement, wordSpelling, isUnderlined}
+use Rattle.element_spelling.specs.ElementOctets.{CC, sortTag, afterCC, spellWord, spellSequenceWords, spellElement, wordSpelling}
+use Rattle.element_spelling.specs.ElementOctets.{isUnderlined}
 
 -- ---- the sorts that carry nothing, from their numbers
 
-abbrev pub bareOf : ℕ → Sort
-bareOf n = pick (eqb n 1) Underline (pick (eqb n 2) Shift (pick (eqb n 3) Control SequenceStart))
+abbrev pub ofTag : ℕ → Sort
+ofTag n = pick (eqb n 1) Underline (pick (eqb n 2) Shift (pick (eqb n 3) Control SequenceStart))
 
-pub bare-back : (s : Sort) (n : ℕ) → bareSort s ≡ n → 0 < n → s ≡ bareOf n
-bare-back (Graphic c) n e h = absurd (omega arith)
-bare-back (Mark m) n e h = absurd (omega arith)
-bare-back Underline n e h = ap bareOf e
-bare-back Shift n e h = ap bareOf e
-bare-back Control n e h = ap bareOf e
-bare-back SequenceStart n e h = ap bareOf e
-bare-back (Refused k) n e h = absurd (omega arith)
+pub tag-back : (s : Sort) (n : ℕ) → sortTag s ≡ n → 0 < n → s ≡ ofTag n
+tag-back (Graphic c) n e h = absurd (omega arith)
+tag-back (Mark m) n e h = absurd (omega arith)
+tag-back Underline n e h = ap ofTag e
+tag-back Shift n e h = ap ofTag e
+tag-back Control n e h = ap ofTag e
+tag-back SequenceStart n e h = ap ofTag e
+tag-back (Refused k) n e h = absurd (omega arith)
 
 -- a control is an octet
-control-octet : (f : Form) (o : ℕ) → bareSort (sortIn f o) ≡ 3 → o < 0x100
-control-octet f o e = control-small f o (bare-back (sortIn f o) 3 e (omega arith))
+control-octet : (f : Form) (o : ℕ) → sortTag (sortIn f o) ≡ 3 → o < 0x100
+control-octet f o e = control-small f o (tag-back (sortIn f o) 3 e (omega arith))
 
 -- ---- CC before a spelling
 
@@ -91,27 +92,37 @@ module _ (f : Form) (w : ℕ) where
   pub word-character : w < 0x1000000 → wordSpelling f w ≡ spellIn f w
   word-character h = rw (lt-ltb w 0x1000000 h)
 
-  pub word-underlined : 0x1000000 ≤ w → w < 0x2000000 → bareSort (sortIn f CC) ≡ 1 → wordSpelling f w ≡ spellIn f (w - 0x1000000)
-  word-underlined a b e = rw (le-ltb w 0x1000000 a, lt-ltb w 0x2000000 b, eq-eqb (bareSort (sortIn f CC)) 1 e)
+  pub word-underlined : 0x1000000 ≤ w → w < 0x2000000 → sortTag (sortIn f CC) ≡ 1 → wordSpelling f w ≡ spellIn f (w - 0x1000000)
+  word-underlined a b e = rw (le-ltb w 0x1000000 a, lt-ltb w 0x2000000 b, eq-eqb (sortTag (sortIn f CC)) 1 e)
 
-  pub word-no-underline : 0x1000000 ≤ w → w < 0x2000000 → (bareSort (sortIn f CC) ≡ 1 → ⊥) → wordSpelling f w ≡ Unspelt
-  word-no-underline a b n = rw (le-ltb w 0x1000000 a, lt-ltb w 0x2000000 b, ne-eqb (bareSort (sortIn f CC)) 1 n)
+  pub word-no-underline : 0x1000000 ≤ w → w < 0x2000000 → (sortTag (sortIn f CC) ≡ 1 → ⊥) → wordSpelling f w ≡ Unspelt
+  word-no-underline a b n = rw (le-ltb w 0x1000000 a, lt-ltb w 0x2000000 b, ne-eqb (sortTag (sortIn f CC)) 1 n)
 
-  pub word-control : 0x2000000 ≤ w → w < 0x2000100 → bareSort (sortIn f (w - 0x2000000)) ≡ 3 → wordSpelling f w ≡ Single (w - 0x2000000)
-  word-control a b e = rw (le-ltb w 0x1000000 (omega arith), le-ltb w 0x2000000 a, lt-ltb w 0x4000000 (omega arith), eq-eqb (bareSort (sortIn f (w - 0x2000000))) 3 e)
+  pub word-control : 0x2000000 ≤ w → w < 0x2000100 → sortTag (sortIn f (w - 0x2000000)) ≡ 3 → wordSpelling f w ≡ Single (w - 0x2000000)
+  word-control a b e =
+      rw (
+        le-ltb w 0x1000000 (omega arith),
+        le-ltb w 0x2000000 a,
+        lt-ltb w 0x4000000 (omega arith),
+        eq-eqb (sortTag (sortIn f (w - 0x2000000))) 3 e,
+      )
 
-  pub word-no-control : 0x2000000 ≤ w → (bareSort (sortIn f (w - 0x2000000)) ≡ 3 → ⊥) → wordSpelling f w ≡ Unspelt
+  pub word-no-control : 0x2000000 ≤ w → (sortTag (sortIn f (w - 0x2000000)) ≡ 3 → ⊥) → wordSpelling f w ≡ Unspelt
   word-no-control a n =
-      rw (le-ltb w 0x1000000 (omega arith), le-ltb w 0x2000000 a, ne-eqb (bareSort (sortIn f (w - 0x2000000))) 3 n) (either-way Unspelt (ltb w 0x4000000))
+      rw (le-ltb w 0x1000000 (omega arith), le-ltb w 0x2000000 a, ne-eqb (sortTag (sortIn f (w - 0x2000000))) 3 n)
+      (either-way Unspelt (ltb w 0x4000000))
 
   pub word-high : 0x2000100 ≤ w → wordSpelling f w ≡ Unspelt
   word-high a = word-no-control (omega arith) (λ e. omega (arith, control-octet f (w - 0x2000000) e))
 
   -- the spelling is the word's, after CC if it is underlined
   parts : (a b c u k : Bool)
-      → (let x = pick a (spellIn f w) (pick b (pick u (spellIn f (w - 0x1000000)) Unspelt) (pick c (pick k (Single (w - 0x2000000)) Unspelt) Unspelt)) in
+      → (let x =
+      pick a (spellIn f w)
+      (pick b (pick u (spellIn f (w - 0x1000000)) Unspelt) (pick c (pick k (Single (w - 0x2000000)) Unspelt) Unspelt)) in
       pick (pick a false b) (afterCC (octetsOf x)) (octetsOf x))
-      ≡ pick a (octetsOf (spellIn f w)) (pick b (pick u (afterCC (octetsOf (spellIn f (w - 0x1000000)))) []) (pick c (pick k ((w - 0x2000000) ∷ []) []) []))
+      ≡ pick a (octetsOf (spellIn f w))
+      (pick b (pick u (afterCC (octetsOf (spellIn f (w - 0x1000000)))) []) (pick c (pick k ((w - 0x2000000) ∷ []) []) []))
   parts true b c u k = refl
   parts false true c true k = refl
   parts false true c false k = refl
@@ -120,12 +131,15 @@ module _ (f : Form) (w : ℕ) where
   parts false false false u k = refl
 
   spell-word : pick (isUnderlined w) (afterCC (octetsOf (wordSpelling f w))) (octetsOf (wordSpelling f w)) ≡ spellWord f w
-  spell-word = parts (ltb w 0x1000000) (ltb w 0x2000000) (ltb w 0x4000000) (eqb (bareSort (sortIn f CC)) 1) (eqb (bareSort (sortIn f (w - 0x2000000))) 3)
+  spell-word =
+      parts (ltb w 0x1000000) (ltb w 0x2000000) (ltb w 0x4000000) (eqb (sortTag (sortIn f CC)) 1)
+      (eqb (sortTag (sortIn f (w - 0x2000000))) 3)
 
   pub spell-bare : isUnderlined w ≡ false → spellWord f w ≡ octetsOf (wordSpelling f w)
   spell-bare e = sym spell-word ∙ ap (λ (b : Bool). pick b (afterCC (octetsOf (wordSpelling f w))) (octetsOf (wordSpelling f w))) e
 
-  pub spell-after : isUnderlined w ≡ true → (length (octetsOf (wordSpelling f w)) ≡ 0 → ⊥) → spellWord f w ≡ CC ∷ octetsOf (wordSpelling f w)
+  pub spell-after : isUnderlined w ≡ true → (length (octetsOf (wordSpelling f w)) ≡ 0 → ⊥)
+      → spellWord f w ≡ CC ∷ octetsOf (wordSpelling f w)
   spell-after e n =
       sym spell-word
       ∙ ap (λ (b : Bool). pick b (afterCC (octetsOf (wordSpelling f w))) (octetsOf (wordSpelling f w))) e
@@ -153,7 +167,8 @@ put-short out at s h = put-as (sym (none-fits out at s h)) (put-none out at)
 pub no-place : (out : List ℕ) (at : ℕ) (s : List ℕ) → length out < at → Put out at (whatFits out at s) out at
 no-place out at s h = put-short out at s (omega arith)
 
-put-whole : {out after : List ℕ} {at r : ℕ} (s : List ℕ) → at + length s ≤ length out → Put out at s after r → Put out at (whatFits out at s) after r
+put-whole : {out after : List ℕ} {at r : ℕ} (s : List ℕ) → at + length s ≤ length out → Put out at s after r
+    → Put out at (whatFits out at s) after r
 put-whole {out} {at = at} s h p = put-as (sym (all-fit out at s h)) p
 
 -- a word of which n octets are spelt, but for CC
@@ -181,7 +196,8 @@ module _ (f : Form) (w n : ℕ) (x : Spelling) (size : n ≡ length (octetsOf x)
     pub bare-short : (out : List ℕ) (at : ℕ) → at ≤ length out → length out - at < n → Put out at (whatFits out at (spellWord f w)) out at
     bare-short out at h k = put-short out at (spellWord f w) (omega (arith, bare-size))
 
-    pub bare-put : {out after : List ℕ} {at r : ℕ} → at ≤ length out → n ≤ length out - at → Put out at (octetsOf x) after r → Put out at (whatFits out at (spellWord f w)) after r
+    pub bare-put : {out after : List ℕ} {at r : ℕ} → at ≤ length out → n ≤ length out - at → Put out at (octetsOf x) after r
+        → Put out at (whatFits out at (spellWord f w)) after r
     bare-put h k p = put-whole (spellWord f w) (omega (arith, bare-size)) (put-as (sym bare) p)
 
   module _ (u : isUnderlined w ≡ true) (some : n ≡ 0 → ⊥) where
@@ -191,7 +207,8 @@ module _ (f : Form) (w n : ℕ) (x : Spelling) (size : n ≡ length (octetsOf x)
     pub after-size : n + 1 ≡ length (spellWord f w)
     after-size = omega (arith, size, ap length after)
 
-    pub after-short : (out : List ℕ) (at : ℕ) → at ≤ length out → length out - at < n + 1 → Put out at (whatFits out at (spellWord f w)) out at
+    pub after-short : (out : List ℕ) (at : ℕ) → at ≤ length out → length out - at < n + 1
+        → Put out at (whatFits out at (spellWord f w)) out at
     after-short out at h k = put-short out at (spellWord f w) (omega (arith, after-size))
 
     pub after-put : {out mid end : List ℕ} {at i r : ℕ} → at ≤ length out → n + 1 ≤ length out - at
@@ -207,15 +224,15 @@ after-room n s e h k p = let o = put-one (omega arith) p in omega (arith, o .pla
 -- ---- the spelling of a sequence's words
 
 module _ (f : Form) (h : ℕ) (vs : List ℕ) where
-  pub no-start : (bareSort (sortIn f CSI) ≡ 4 → ⊥) → spellSequenceWords f h vs ≡ []
-  no-start n = rw (ne-eqb (bareSort (sortIn f CSI)) 4 n)
+  pub no-start : (sortTag (sortIn f CSI) ≡ 4 → ⊥) → spellSequenceWords f h vs ≡ []
+  no-start n = rw (ne-eqb (sortTag (sortIn f CSI)) 4 n)
 
-  module _ (start : bareSort (sortIn f CSI) ≡ 4) where
+  module _ (start : sortTag (sortIn f CSI) ≡ 4) where
     pub not-spelt : isSequence h vs ≡ false → spellSequenceWords f h vs ≡ []
-    not-spelt e = rw (eq-eqb (bareSort (sortIn f CSI)) 4 start, e)
+    not-spelt e = rw (eq-eqb (sortTag (sortIn f CSI)) 4 start, e)
 
     pub is-spelt : isSequence h vs ≡ true → spellSequenceWords f h vs ≡ spellSequence (sequenceOf h vs)
-    is-spelt e = rw (eq-eqb (bareSort (sortIn f CSI)) 4 start, e)
+    is-spelt e = rw (eq-eqb (sortTag (sortIn f CSI)) 4 start, e)
 
 module _ (h : ℕ) (vs : List ℕ) (e : isSequence h vs ≡ true) where
   is-fine : isFine (sequenceOf h vs) ≡ true
@@ -236,7 +253,8 @@ module _ (f : Form) (e : Element) where
   unfolding spellElement
   held-one w q = ap (spellElement f) q
 
-  pub held-sequence : (h n k : ℕ) (l : List ℕ) (v : Values) → e ≡ SequenceOf h k v → n ≡ min k 8 → l ≡ listOf v → spellElement f e ≡ spellSequenceWords f h (take n l)
+  pub held-sequence : (h n k : ℕ) (l : List ℕ) (v : Values) → e ≡ SequenceOf h k v → n ≡ min k 8 → l ≡ listOf v
+      → spellElement f e ≡ spellSequenceWords f h (take n l)
   unfolding spellElement
   held-sequence h n k l v q a b =
       ap (spellElement f) q ∙ ap (spellSequenceWords f h) (sym (ap₂ take a b ∙ kept-values k v))

@@ -1,5 +1,5 @@
--- Canonical spelling of an element: the definition gives exactly the relation; it reads back; what a form reads it holds; and writing keeps the
--- record of promises of `run`. Over the form.
+-- Canonical spelling of an element: the definition gives exactly the relation; it reads back; what a form reads it holds; and writing
+-- keeps the record of promises of `run`. Over the form.
 -- Assumes nothing.
 use Prim.Native.Nat.{ℕ, _+_, _-_, _≤_, _<_}
 use mathlib.Core.Path.{_≡_, refl, sym, ap, ap₂, _∙_, subst, subst₂}
@@ -17,7 +17,6 @@ use Rattle.run.specs.Speller.{SpeltBy}
 use Rattle.run.proofs.Choices.{pick-case}
 use Rattle.run.proofs.Spellers.{reads-as, spelt-reads, Why, by-head, not-spelt, why}
 use Rattle.sorts.specs.declared.Form.{Form}
-use Rattle.sorts.specs.declared.Sort.{Sort}
 use Rattle.sorts.specs.declared.Sort.the-variants.{Underline, Shift, Control}
 use Rattle.spelling.specs.declared.Spelling.{Spelling}
 use Rattle.spelling.specs.declared.Spelling.the-variants.{One as Single, Shifted, Pair, ShiftedPair, Unspelt}
@@ -35,13 +34,15 @@ use Rattle.sequence_reading.proofs.Reader.{sequence-reads}
 use Rattle.sequence_spelling.proofs.Back.{read-fine}
 use Rattle.sequence_spelling.proofs.Exactly.{canonical-exactly, spells-canonical}
 use Rattle.element_words.specs.declared.Element.{Element}
-use Rattle.element_words.specs.declared.Element.the-variants.{One, Sequence as SequenceOf}
-use Rattle.element_words.specs.Words.{graphicWord, controlWord, headWord, sequenceElement, wordsOf, Proper, Means, means, sequenceOf, wordHead}
+use Rattle.element_words.specs.declared.Element.the-variants.{One}
+use Rattle.element_words.specs.Words.{graphicWord, controlWord, headWord, sequenceElement, wordsOf, Proper, Means, means, sequenceOf}
+use Rattle.element_words.specs.Words.{wordHead}
 use Rattle.element_reading.specs.Grammar.{Awaits, Spells}
 use Rattle.element_reading.specs.Reading.{headIn}
 use Rattle.element_reading.proofs.Reader.{reads}
-use Rattle.element_spelling.specs.ElementOctets.{CC, CanonicalElement, Held, Writes, NoneHeld, bareSort, afterCC, spellWord, spellSequenceWords, spellElement, spellHead}
-use Rattle.element_spelling.proofs.Steps.{bare-back}
+use Rattle.element_spelling.specs.ElementOctets.{CC, CanonicalElement, Held, Writes, NoneHeld, sortTag, afterCC, spellWord}
+use Rattle.element_spelling.specs.ElementOctets.{spellSequenceWords, spellElement, spellHead}
+use Rattle.element_spelling.proofs.Steps.{tag-back}
 use Rattle.element_words.proofs.Words.{values-back, sequence-back, is-sequence, words-read, words-refused}
 
 -- ---- CC before a spelling
@@ -77,14 +78,22 @@ module _ (f : Form) where
   spell-control : (o : ℕ) → o < 0x2000000 → sortIn f o ≡ Control → spellWord f (controlWord o) ≡ o ∷ []
   spell-control o h s =
       let w : 0x2000000 + o - 0x2000000 ≡ o = omega arith in
-      rw (le-ltb (0x2000000 + o) 0x1000000 (omega arith), le-ltb (0x2000000 + o) 0x2000000 (omega arith), lt-ltb (0x2000000 + o) 0x4000000 (omega arith), w, s)
+      rw (
+        le-ltb (0x2000000 + o) 0x1000000 (omega arith),
+        le-ltb (0x2000000 + o) 0x2000000 (omega arith),
+        lt-ltb (0x2000000 + o) 0x4000000 (omega arith),
+        w,
+        s,
+      )
 
-  spell-sequence : (q : Sequence) → Fine q → spellElement f (sequenceElement q) ≡ pick (eqb (bareSort (sortIn f CSI)) 4) (spellSequence q) []
+  spell-sequence : (q : Sequence) → Fine q
+      → spellElement f (sequenceElement q) ≡ pick (eqb (sortTag (sortIn f CSI)) 4) (spellSequence q) []
   unfolding spellElement
   spell-sequence q fine =
       ap (spellSequenceWords f (headWord q)) (values-back (q .values) (fine .eight))
-      ∙ ap (λ (b : Bool). pick (eqb (bareSort (sortIn f CSI)) 4) (pick b (spellSequence (sequenceOf (headWord q) (q .values))) []) []) (is-sequence q fine)
-      ∙ ap (λ (r : Sequence). pick (eqb (bareSort (sortIn f CSI)) 4) (spellSequence r) []) (sequence-back q fine)
+      ∙ ap (λ (b : Bool). pick (eqb (sortTag (sortIn f CSI)) 4) (pick b (spellSequence (sequenceOf (headWord q) (q .values))) []) [])
+      (is-sequence q fine)
+      ∙ ap (λ (r : Sequence). pick (eqb (sortTag (sortIn f CSI)) 4) (spellSequence r) []) (sequence-back q fine)
 
   canonical-small : {c : ℕ} {x : Spelling} → Canonical f c x → c < 0x1000000
   canonical-small {c} k = omega (arith, code-point-small f c (reads-back f c k))
@@ -107,8 +116,10 @@ module _ (f : Form) where
   given-graphic : (w : ℕ) → Some (octetsOf (spellIn f w)) → CanonicalElement f (octetsOf (spellIn f w)) (One w)
   given-graphic w n = CanonicalElement.graphic (exactly f w (spellIn f w) .1 (refl, nothing-spelt (spellIn f w) n))
 
-  given-underlined : (w : ℕ) → 0x1000000 ≤ w → Some (pick (eqb (bareSort (sortIn f CC)) 1) (afterCC (octetsOf (spellIn f (w - 0x1000000)))) []) → CanonicalElement f (pick (eqb (bareSort (sortIn f CC)) 1) (afterCC (octetsOf (spellIn f (w - 0x1000000)))) []) (One w)
-  given-underlined w h = go (eqb (bareSort (sortIn f CC)) 1) refl
+  given-underlined : (w : ℕ) → 0x1000000 ≤ w
+      → Some (pick (eqb (sortTag (sortIn f CC)) 1) (afterCC (octetsOf (spellIn f (w - 0x1000000)))) [])
+      → CanonicalElement f (pick (eqb (sortTag (sortIn f CC)) 1) (afterCC (octetsOf (spellIn f (w - 0x1000000)))) []) (One w)
+  given-underlined w h = go (eqb (sortTag (sortIn f CC)) 1) refl
     where
       x : Spelling
       x = spellIn f (w - 0x1000000)
@@ -116,21 +127,28 @@ module _ (f : Form) where
       c : 0x1000000 + (w - 0x1000000) ≡ w
       c = omega arith
 
-      go : (b : Bool) → eqb (bareSort (sortIn f CC)) 1 ≡ b → Some (pick b (afterCC (octetsOf x)) []) → CanonicalElement f (pick b (afterCC (octetsOf x)) []) (One w)
+      go : (b : Bool) → eqb (sortTag (sortIn f CC)) 1 ≡ b → Some (pick b (afterCC (octetsOf x)) [])
+          → CanonicalElement f (pick b (afterCC (octetsOf x)) []) (One w)
       go true e n =
           let u : x ≡ Unspelt → ⊥ = nothing-after x n in
           subst₂ (λ (s : List ℕ) (v : ℕ). CanonicalElement f s (One v)) (sym (after-spelt x u)) c
-          (CanonicalElement.underlined (bare-back (sortIn f CC) 1 (eqb-true (bareSort (sortIn f CC)) 1 e) (omega arith)) (exactly f (w - 0x1000000) x .1 (refl, u)))
+          (CanonicalElement.underlined (tag-back (sortIn f CC) 1 (eqb-true (sortTag (sortIn f CC)) 1 e) (omega arith))
+          (exactly f (w - 0x1000000) x .1 (refl, u)))
       go false e n = absurd (n refl)
 
-  given-control : (w : ℕ) → 0x2000000 ≤ w → Some (pick (eqb (bareSort (sortIn f (w - 0x2000000))) 3) ((w - 0x2000000) ∷ []) []) → CanonicalElement f (pick (eqb (bareSort (sortIn f (w - 0x2000000))) 3) ((w - 0x2000000) ∷ []) []) (One w)
-  given-control w h = go (eqb (bareSort (sortIn f (w - 0x2000000))) 3) refl
+  given-control : (w : ℕ) → 0x2000000 ≤ w → Some (pick (eqb (sortTag (sortIn f (w - 0x2000000))) 3) ((w - 0x2000000) ∷ []) [])
+      → CanonicalElement f (pick (eqb (sortTag (sortIn f (w - 0x2000000))) 3) ((w - 0x2000000) ∷ []) []) (One w)
+  given-control w h = go (eqb (sortTag (sortIn f (w - 0x2000000))) 3) refl
     where
       c : 0x2000000 + (w - 0x2000000) ≡ w
       c = omega arith
 
-      go : (b : Bool) → eqb (bareSort (sortIn f (w - 0x2000000))) 3 ≡ b → Some (pick b ((w - 0x2000000) ∷ []) []) → CanonicalElement f (pick b ((w - 0x2000000) ∷ []) []) (One w)
-      go true e n = subst (λ (v : ℕ). CanonicalElement f ((w - 0x2000000) ∷ []) (One v)) c (CanonicalElement.control (bare-back (sortIn f (w - 0x2000000)) 3 (eqb-true (bareSort (sortIn f (w - 0x2000000))) 3 e) (omega arith)))
+      go : (b : Bool) → eqb (sortTag (sortIn f (w - 0x2000000))) 3 ≡ b → Some (pick b ((w - 0x2000000) ∷ []) [])
+          → CanonicalElement f (pick b ((w - 0x2000000) ∷ []) []) (One w)
+      go true e n =
+          subst (λ (v : ℕ). CanonicalElement f ((w - 0x2000000) ∷ []) (One v)) c
+          (CanonicalElement.control
+          (tag-back (sortIn f (w - 0x2000000)) 3 (eqb-true (sortTag (sortIn f (w - 0x2000000))) 3 e) (omega arith)))
       go false e n = absurd (n refl)
 
   abbrev If-some : Element → List ℕ → Type 0
@@ -144,10 +162,12 @@ module _ (f : Form) where
       (λ c n. absurd (n refl))))
 
   given-sequence : (q : Sequence) → Fine q → If-some (sequenceElement q) (spellElement f (sequenceElement q))
-  given-sequence q fine = subst (If-some (sequenceElement q)) (sym (spell-sequence q fine)) (go (eqb (bareSort (sortIn f CSI)) 4) refl)
+  given-sequence q fine = subst (If-some (sequenceElement q)) (sym (spell-sequence q fine)) (go (eqb (sortTag (sortIn f CSI)) 4) refl)
     where
-      go : (b : Bool) → eqb (bareSort (sortIn f CSI)) 4 ≡ b → If-some (sequenceElement q) (pick b (spellSequence q) [])
-      go true e n = CanonicalElement.sequence (bare-back (sortIn f CSI) 4 (eqb-true (bareSort (sortIn f CSI)) 4 e) (omega arith)) (canonical-exactly (spellSequence q) q .1 (fine, refl))
+      go : (b : Bool) → eqb (sortTag (sortIn f CSI)) 4 ≡ b → If-some (sequenceElement q) (pick b (spellSequence q) [])
+      go true e n =
+          CanonicalElement.sequence (tag-back (sortIn f CSI) 4 (eqb-true (sortTag (sortIn f CSI)) 4 e) (omega arith))
+          (canonical-exactly (spellSequence q) q .1 (fine, refl))
       go false e n = absurd (n refl)
 
   given-canonical : {e : Element} → Proper e → If-some e (spellElement f e)
@@ -234,7 +254,8 @@ module _ (f : Form) where
   read-held (Spells.control e) = Held.held (CanonicalElement.control e)
   read-held (Spells.sequence {o} {p} {q} k h) =
       let fine = read-fine ((o ∷ p) ++ []) q (length (o ∷ p)) (sequence-reads .finds (o ∷ p) [] q h) in
-      Held.held (CanonicalElement.sequence (sym (ap (sortIn f) (sequence-is f o k)) ∙ k) (canonical-exactly (spellSequence q) q .1 (fine, refl)))
+      Held.held (CanonicalElement.sequence (sym (ap (sortIn f) (sequence-is f o k)) ∙ k)
+      (canonical-exactly (spellSequence q) q .1 (fine, refl)))
 
   -- ---- writing keeps the record of promises
 
@@ -270,7 +291,8 @@ module _ (f : Form) where
 
   not-written : (ws : List ℕ) (r d : ℕ) → spellHead f ws ≡ refused r d → (e : Element) (t : List ℕ) → Held f e → ws ≡ wordsOf e ++ t → ⊥
   not-written ws r d q e t (Held.held {s} k) w =
-      let found : spellHead f ws ≡ element s (length (wordsOf e)) = ap (spellHead f) w ∙ writer-reads .finds (wordsOf e) t s (Writes.writes (Held.held k) k) in
+      let found : spellHead f ws ≡ element s (length (wordsOf e)) =
+      ap (spellHead f) w ∙ writer-reads .finds (wordsOf e) t s (Writes.writes (Held.held k) k) in
       let z : _≡_ {A = ℕ} 0 1 = cc in
       omega arith
 

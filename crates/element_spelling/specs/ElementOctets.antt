@@ -60,14 +60,14 @@ pub record NoneHeld (f : Form) (words : List ℕ) : Type 0 where
 -- ---- the definition that gives it: no octets where the form does not hold the element
 
 -- the sorts that carry nothing, each by its number; 0 for any other
-abbrev pub bareSort : Sort → ℕ
-bareSort (Graphic c) = 0
-bareSort (Mark m) = 0
-bareSort Underline = 1
-bareSort Shift = 2
-bareSort Control = 3
-bareSort SequenceStart = 4
-bareSort (Refused n) = 0
+abbrev pub sortTag : Sort → ℕ
+sortTag (Graphic c) = 0
+sortTag (Mark m) = 0
+sortTag Underline = 1
+sortTag Shift = 2
+sortTag Control = 3
+sortTag SequenceStart = 4
+sortTag (Refused n) = 0
 
 -- CC before what is spelt
 abbrev pub afterCC : List ℕ → List ℕ
@@ -78,13 +78,13 @@ afterCC (o ∷ s) = CC ∷ o ∷ s
 abbrev pub spellWord : Form → ℕ → List ℕ
 spellWord f w =
     pick (ltb w 0x1000000) (octetsOf (spellIn f w))
-    (pick (ltb w 0x2000000) (pick (eqb (bareSort (sortIn f CC)) 1) (afterCC (octetsOf (spellIn f (w - 0x1000000)))) [])
-    (pick (ltb w 0x4000000) (pick (eqb (bareSort (sortIn f (w - 0x2000000))) 3) ((w - 0x2000000) ∷ []) []) []))
+    (pick (ltb w 0x2000000) (pick (eqb (sortTag (sortIn f CC)) (sortTag Underline)) (afterCC (octetsOf (spellIn f (w - 0x1000000)))) [])
+    (pick (ltb w 0x4000000) (pick (eqb (sortTag (sortIn f (w - 0x2000000))) (sortTag Control)) ((w - 0x2000000) ∷ []) []) []))
 
 -- a head word and its values
 abbrev pub spellSequenceWords : Form → ℕ → List ℕ → List ℕ
 spellSequenceWords f h vs =
-    pick (eqb (bareSort (sortIn f CSI)) 4) (pick (isSequence h vs) (spellSequence (sequenceOf h vs)) []) []
+    pick (eqb (sortTag (sortIn f CSI)) (sortTag SequenceStart)) (pick (isSequence h vs) (spellSequence (sequenceOf h vs)) []) []
 
 unfoldable pub spellElement : Form → Element → List ℕ
 spellElement f (One w) = spellWord f w
@@ -99,8 +99,8 @@ spellHead f = speltBy (spellElement f) wordHead
 abbrev pub wordSpelling : Form → ℕ → Spelling
 wordSpelling f w =
     pick (ltb w 0x1000000) (spellIn f w)
-    (pick (ltb w 0x2000000) (pick (eqb (bareSort (sortIn f CC)) 1) (spellIn f (w - 0x1000000)) Unspelt)
-    (pick (ltb w 0x4000000) (pick (eqb (bareSort (sortIn f (w - 0x2000000))) 3) (Single (w - 0x2000000)) Unspelt) Unspelt))
+    (pick (ltb w 0x2000000) (pick (eqb (sortTag (sortIn f CC)) (sortTag Underline)) (spellIn f (w - 0x1000000)) Unspelt)
+    (pick (ltb w 0x4000000) (pick (eqb (sortTag (sortIn f (w - 0x2000000))) (sortTag Control)) (Single (w - 0x2000000)) Unspelt) Unspelt))
 
 abbrev pub isUnderlined : ℕ → Bool
 isUnderlined w = pick (ltb w 0x1000000) false (ltb w 0x2000000)

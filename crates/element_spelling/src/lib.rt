@@ -10,19 +10,27 @@ ghost use lib.ListN.{length};
 ghost use Rattle.run.specs.Put.{Put, whatFits};
 ghost use Rattle.spelling.specs.CanonicalSpelling.{octetsOf};
 ghost use Rattle.sequence_reading.specs.Reading.{listOf};
-ghost use Rattle.element_spelling.specs.ElementOctets.{bareSort, spellWord, spellSequenceWords, spellElement, wordSpelling, isUnderlined};
+ghost use Rattle.element_spelling.specs.ElementOctets.{sortTag, spellWord, spellSequenceWords, spellElement};
+ghost use Rattle.element_spelling.specs.ElementOctets.{wordSpelling, isUnderlined};
 
-// The sorts that carry nothing, each by its number; 0 for any other.
-fn bare_sort(sort: Sort) -> u8
-    ensures { λ r. ⌜ r ≡ bareSort sort ⌝ }
+// The sorts that a spelling asks for, as `sort_tag` tells them.
+const UNDERLINE: u8 = 1;
+
+const CONTROL: u8 = 3;
+
+const SEQUENCE_START: u8 = 4;
+
+// The sorts that carry nothing, each by its tag; 0 for any other.
+fn sort_tag(sort: Sort) -> u8
+    ensures { λ r. ⌜ r ≡ sortTag sort ⌝ }
 {
     match sort {
         Sort::Graphic(_) => 0,
         Sort::Mark(_) => 0,
-        Sort::Underline => 1,
+        Sort::Underline => UNDERLINE,
         Sort::Shift => 2,
-        Sort::Control => 3,
-        Sort::SequenceStart => 4,
+        Sort::Control => CONTROL,
+        Sort::SequenceStart => SEQUENCE_START,
         Sort::Refused(_) => 0,
     }
 }
@@ -35,14 +43,14 @@ fn word_spelling(form: Form, w: u32) -> Spelling
         return spelling::spell_in(form, w);
     }
     if w < 0x2000000 {
-        if bare_sort(sorts::sort_in(form, 0xCC)) == 1 {
+        if sort_tag(sorts::sort_in(form, 0xCC)) == UNDERLINE {
             return spelling::spell_in(form, w - 0x1000000);
         }
         return Spelling::Unspelt;
     }
     if w < 0x2000100 {
         let o = (w - 0x2000000) as u8;
-        if bare_sort(sorts::sort_in(form, o)) == 3 {
+        if sort_tag(sorts::sort_in(form, o)) == CONTROL {
             return Spelling::One(o);
         }
         return Spelling::Unspelt;
@@ -139,7 +147,7 @@ fn put_word(form: Form, w: u32, out: &mut [u8], at: usize) -> usize
 fn sequence_words_size(form: Form, head: u32, values: &[u32]) -> usize
     ensures { λ r. ⌜ r ≡ length (spellSequenceWords form head (now (values .entry))) ⌝ }
 {
-    if bare_sort(sorts::sort_in(form, 0x9B)) != 4 {
+    if sort_tag(sorts::sort_in(form, 0x9B)) != SEQUENCE_START {
         return 0;
     }
     if !element_words::is_sequence(head, values) {
@@ -151,9 +159,10 @@ fn sequence_words_size(form: Form, head: u32, values: &[u32]) -> usize
 }
 
 fn put_sequence_words(form: Form, head: u32, values: &[u32], out: &mut [u8], at: usize) -> usize
-    ensures { λ r. ⌜ Put (now (out .entry)) at (whatFits (now (out .entry)) at (spellSequenceWords form head (now (values .entry)))) (now (out .exit)) r ⌝ }
+    ensures { λ r. ⌜ Put (now (out .entry)) at
+        (whatFits (now (out .entry)) at (spellSequenceWords form head (now (values .entry)))) (now (out .exit)) r ⌝ }
 {
-    if bare_sort(sorts::sort_in(form, 0x9B)) != 4 {
+    if sort_tag(sorts::sort_in(form, 0x9B)) != SEQUENCE_START {
         return at;
     }
     if !element_words::is_sequence(head, values) {
@@ -189,8 +198,8 @@ pub fn spelt_size(form: Form, e: Element) -> usize
     }
 }
 
-// Writes an element's canonical spelling at `at` and answers the place after it; where the form does not hold it or the room is short, it does
-// nothing and answers `at`.
+// Writes an element's canonical spelling at `at` and answers the place after it; where the form does not hold it or the room is short,
+// it does nothing and answers `at`.
 pub fn put_spelling(form: Form, e: Element, out: &mut [u8], at: usize) -> usize
     ensures { λ r. ⌜ Put (now (out .entry)) at (whatFits (now (out .entry)) at (spellElement form e)) (now (out .exit)) r ⌝ }
 {

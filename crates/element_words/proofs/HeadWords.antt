@@ -43,9 +43,13 @@ module _ (h : ℕ) (vs : List ℕ) where
   pub high-middle : 0x2F < (h - 0x4000000) / 0x10000 → false ≡ isSequence h vs
   high-middle l = never (λ e. ⊎-elim (λ z. omega arith) (λ z. omega arith) (is-true e .0 .middle))
 
-  fine-or : (b : Bool) → isFine (sequenceOf h vs) ≡ b → (sizeOf (sequenceOf h vs) ≡ 0 → false ≡ isSequence h vs) × ((sizeOf (sequenceOf h vs) ≡ 0 → ⊥) → isFine (sequenceOf h vs) ≡ true)
+  fine-or : (b : Bool) → isFine (sequenceOf h vs) ≡ b
+      → (sizeOf (sequenceOf h vs) ≡ 0 → false ≡ isSequence h vs) × ((sizeOf (sequenceOf h vs) ≡ 0 → ⊥) → isFine (sequenceOf h vs) ≡ true)
   unfolding sizeOf
-  fine-or true e = (λ z. absurd (let y : length (spellSequence (sequenceOf h vs)) ≡ 0 = sym (rw e) ∙ z in omega (arith, size-some (sequenceOf h vs))), λ n. e)
+  fine-or true e = (
+    λ z. absurd (let y : length (spellSequence (sequenceOf h vs)) ≡ 0 = sym (rw e) ∙ z in omega (arith, size-some (sequenceOf h vs))),
+    λ n. e,
+  )
   fine-or false e = (λ z. rw e, λ n. absurd (n (rw e)))
 
   pub no-size : sizeOf (sequenceOf h vs) ≡ 0 → false ≡ isSequence h vs
@@ -58,7 +62,8 @@ module _ (h : ℕ) (vs : List ℕ) where
       go true e = sym (eq-eqb c d (f (eqb-true a b e)))
       go false e = sym (ne-eqb c d (λ q. eqb-false a b e (g q)))
 
-  pub by-count : 0x4000000 ≤ h → (h - 0x4000000) / 0x10000 ≤ 0x2F → (sizeOf (sequenceOf h vs) ≡ 0 → ⊥) → eqb (h % 0x100) (length vs) ≡ isSequence h vs
+  pub by-count : 0x4000000 ≤ h → (h - 0x4000000) / 0x10000 ≤ 0x2F → (sizeOf (sequenceOf h vs) ≡ 0 → ⊥)
+      → eqb (h % 0x100) (length vs) ≡ isSequence h vs
   by-count l m n =
       same-test (h % 0x100) (length vs) (headWord (sequenceOf h vs)) h (λ e. omega arith) (λ e. omega arith)
       ∙ ap (λ (b : Bool). pick b (eqb (headWord (sequenceOf h vs)) h) false) (sym (fine-or (isFine (sequenceOf h vs)) refl .1 n))

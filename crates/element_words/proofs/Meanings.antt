@@ -38,26 +38,35 @@ module _ (words : List ℕ) (at : ℕ) where
     one-word l = sym (here ∙ rw (lt-ltb (getD words at 0) 0x4000000 l))
 
     module _ (l : 0x4000000 ≤ getD words at 0) where
-      no-sequence : isSequence (getD words at 0) (take (getD words at 0 % 0x100) (drop (at + 1) words)) ≡ false → NoElement ≡ meantAt words at
+      no-sequence : isSequence (getD words at 0) (take (getD words at 0 % 0x100) (drop (at + 1) words)) ≡ false
+          → NoElement ≡ meantAt words at
       unfolding wordHead
       no-sequence e = sym (here ∙ rw (le-ltb (getD words at 0) 0x4000000 l, e))
 
       pub cut-words : length words - (at + 1) < getD words at 0 % 0x100 → NoElement ≡ meantAt words at
       cut-words s =
           no-sequence (sym (never (getD words at 0) (take (getD words at 0 % 0x100) (drop (at + 1) words))
-          (λ e. omega (arith, count-is (getD words at 0) (take (getD words at 0 % 0x100) (drop (at + 1) words)) e, length-take (getD words at 0 % 0x100) (drop (at + 1) words), length-drop (at + 1) words))))
+          (λ e. omega (
+            arith,
+            count-is (getD words at 0) (take (getD words at 0 % 0x100) (drop (at + 1) words)) e,
+            length-take (getD words at 0 % 0x100) (drop (at + 1) words),
+            length-drop (at + 1) words,
+          ))))
 
       -- the part of the words that the values are
       abbrev pub part : List ℕ
       part = take (at + 1 + getD words at 0 % 0x100 - (at + 1)) (drop (at + 1) words)
 
       part-is : part ≡ take (getD words at 0 % 0x100) (drop (at + 1) words)
-      part-is = ap (λ (k : ℕ). take k (drop (at + 1) words)) (let k : at + 1 + getD words at 0 % 0x100 - (at + 1) ≡ getD words at 0 % 0x100 = omega arith in k)
+      part-is =
+          ap (λ (k : ℕ). take k (drop (at + 1) words))
+          (let k : at + 1 + getD words at 0 % 0x100 - (at + 1) ≡ getD words at 0 % 0x100 = omega arith in k)
 
       pub not-words : isSequence (getD words at 0) part ≡ false → NoElement ≡ meantAt words at
       not-words e = no-sequence (subst (λ (l : List ℕ). isSequence (getD words at 0) l ≡ false) part-is e)
 
-      pub are-words : (v : Values) → isSequence (getD words at 0) part ≡ true → v ≡ valuesOf part → Word (SequenceOf (getD words at 0) (getD words at 0 % 0x100) v) (at + 1 + getD words at 0 % 0x100) ≡ meantAt words at
+      pub are-words : (v : Values) → isSequence (getD words at 0) part ≡ true → v ≡ valuesOf part
+          → Word (SequenceOf (getD words at 0) (getD words at 0 % 0x100) v) (at + 1 + getD words at 0 % 0x100) ≡ meantAt words at
       are-words v e q =
           let w : ℕ = getD words at 0 in
           let t = is-true w part e in
@@ -72,7 +81,8 @@ module _ (words : List ℕ) (at : ℕ) where
 pub sequence-words : (h n : ℕ) (v : Values) → 1 + min n 8 ≡ length (wordsOf (SequenceOf h n v))
 sequence-words h n v = omega (arith, length-take n (listOf v))
 
-pub values-more : (v : Values) (k x : ℕ) {a b c : List ℕ} {i j m : ℕ} → k < 8 → Put a i (take k (listOf v)) b j → Put b j (x ∷ []) c m → x ≡ getD (listOf v) k 0 → Put a i (take (k + 1) (listOf v)) c m
+pub values-more : (v : Values) (k x : ℕ) {a b c : List ℕ} {i j m : ℕ} → k < 8 → Put a i (take k (listOf v)) b j → Put b j (x ∷ []) c m
+    → x ≡ getD (listOf v) k 0 → Put a i (take (k + 1) (listOf v)) c m
 values-more v k x h p q e =
     put-as
     (ap (λ (y : ℕ). take k (listOf v) ++ (y ∷ [])) e

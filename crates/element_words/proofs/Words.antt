@@ -2,6 +2,7 @@
 -- Assumes nothing.
 use Prim.Native.Nat.{ℕ, _+_, _-_, _/_, _%_, _≤_, _<_, min}
 use mathlib.Core.Path.{_≡_, refl, sym, ap, ap₂, _∙_, subst, subst₂}
+use mathlib.Core.Logic.{_↔_}
 use mathlib.Core.Bool.{Bool, true, false}
 use mathlib.Core.List.{List, [], _∷_, _++_}
 use native.Mathlib.Omega.{arith}
@@ -20,6 +21,9 @@ use Rattle.sequence_spelling.specs.SequenceOctets.{Fine, isFine}
 use Rattle.sequence_spelling.proofs.Exactly.{fine-test}
 use Rattle.element_words.specs.declared.Element.{Element}
 use Rattle.element_words.specs.declared.Element.the-variants.{One, Sequence as SequenceOf}
+use Rattle.element_words.specs.declared.Meant.{Meant}
+use Rattle.element_words.specs.declared.Meant.the-variants.{Element as Word, NoElement, End}
+use Rattle.element_words.specs.Words.{meantAt, meantAnswer}
 use Rattle.element_words.specs.Words.{headWord, sequenceElement, wordsOf, Proper, Means, means, sequenceOf, isSequence, wordHead}
 
 -- eight values at most are kept by the struct of eight
@@ -52,7 +56,8 @@ part-count n k l v e q = omega (arith, length-take n l, ap length q)
 true-both : (a b : Bool) → a ≡ true → b ≡ true → pick a b false ≡ true
 true-both a b p q = rw (p, q)
 
-pub sequence-head : (w : ℕ) (ws vs : List ℕ) → 0x4000000 ≤ w → take (w % 0x100) ws ≡ vs → isSequence w vs ≡ true → wordHead (w ∷ ws) ≡ element (sequenceElement (sequenceOf w vs)) (w % 0x100 + 1)
+pub sequence-head : (w : ℕ) (ws vs : List ℕ) → 0x4000000 ≤ w → take (w % 0x100) ws ≡ vs → isSequence w vs ≡ true
+    → wordHead (w ∷ ws) ≡ element (sequenceElement (sequenceOf w vs)) (w % 0x100 + 1)
 unfolding wordHead
 sequence-head w ws vs h e s = rw (le-ltb w 0x4000000 h, e, s)
 
@@ -81,7 +86,8 @@ module _ (q : Sequence) (fine : Fine q) where
   pub words-of : wordsOf (sequenceElement q) ≡ headWord q ∷ q .values
   words-of = ap (λ (l : List ℕ). headWord q ∷ l) (values-back (q .values) (fine .eight))
 
-  pub words-head : (t : List ℕ) → wordHead (wordsOf (sequenceElement q) ++ t) ≡ element (sequenceElement q) (length (wordsOf (sequenceElement q)))
+  pub words-head : (t : List ℕ)
+      → wordHead (wordsOf (sequenceElement q) ++ t) ≡ element (sequenceElement q) (length (wordsOf (sequenceElement q)))
   words-head t =
       let n : take (headWord q % 0x100) (q .values ++ t) ≡ q .values = rw count-back (take-append-seam (q .values) t) in
       let k : headWord q % 0x100 + 1 ≡ length (wordsOf (sequenceElement q)) = omega (arith, count-back, ap length words-of) in
@@ -97,11 +103,13 @@ one-head w t h = rw (lt-ltb w 0x4000000 h)
 
 pub data Word-view : List ℕ → Head Element → Type 0 where
   a-word : {w : ℕ} (t : List ℕ) → w < 0x4000000 → Word-view (w ∷ t) (element (One w) 1)
-  a-sequence : {q : Sequence} (t : List ℕ) → Fine q → Word-view (headWord q ∷ (q .values ++ t)) (element (sequenceElement q) (length (q .values) + 1))
+  a-sequence : {q : Sequence} (t : List ℕ) → Fine q
+      → Word-view (headWord q ∷ (q .values ++ t)) (element (sequenceElement q) (length (q .values) + 1))
   no-element : {w : ℕ} (t : List ℕ) → Word-view (w ∷ t) (refused 10 0)
   no-word : Word-view [] none
 
-word-sequence : (w : ℕ) (ws : List ℕ) → isSequence w (take (w % 0x100) ws) ≡ true → Word-view (w ∷ ws) (element (sequenceElement (sequenceOf w (take (w % 0x100) ws))) (w % 0x100 + 1))
+word-sequence : (w : ℕ) (ws : List ℕ) → isSequence w (take (w % 0x100) ws) ≡ true
+    → Word-view (w ∷ ws) (element (sequenceElement (sequenceOf w (take (w % 0x100) ws))) (w % 0x100 + 1))
 word-sequence w ws e =
     let vs = take (w % 0x100) ws in
     let q = sequenceOf w vs in
@@ -188,3 +196,12 @@ words-read =
       numbered = λ ws r d q. omega (arith, words-refused ws r d q);
       inside = λ ws r d q. omega (arith, words-refused ws r d q);
     }
+
+-- Number 10 exactly where the words are no element.
+pub meant-number : (words : List ℕ) (at : ℕ) → (meantAnswer at (meantAt words at) .number ≡ 10) ↔ (meantAt words at ≡ NoElement)
+meant-number words at = (forth (meantAt words at) refl, λ e. ap (λ (m : Meant). meantAnswer at m .number) e)
+  where
+    forth : (m : Meant) → meantAt words at ≡ m → meantAnswer at m .number ≡ 10 → meantAt words at ≡ NoElement
+    forth (Word e next) q h = absurd (omega arith)
+    forth NoElement q h = q
+    forth End q h = absurd (omega arith)

@@ -3,9 +3,9 @@ use run::Answer;
 use tlx::CaseAnswer;
 ghost use mathlib.Core.Path.{_≡_};
 ghost use lib.ListN.{length};
-ghost use Rattle.text.specs.Answers.{writeAnswer, writeText, convertAnswer, convertText};
-ghost use Rattle.text_reading.specs.Answers.{readAnswer, readWords};
-ghost use Rattle.tlx.specs.Reading.{readCaseAnswer, readCaseWords};
+ghost use Rattle.text.specs.WriteAnswers.{writeAnswer, writeText, convertAnswer, convertText};
+ghost use Rattle.text_reading.specs.ReadAnswers.{readAnswer, readWords};
+ghost use Rattle.tlx.specs.CaseReading.{readCaseAnswer, readCaseWords};
 ghost use Rattle.case_writing.specs.FromParts.{writeCaseAnswer, writeCaseOctets};
 
 // Reads a whole text.

@@ -24,6 +24,11 @@ pub given-length : {A : Type 0} (gives : A → List ℕ) (es fs : List A)
     → length (given gives (es ++ fs)) ≡ length (given gives es) + length (given gives fs)
 given-length gives es fs = ap length (given-append gives es fs) ∙ length-append (given gives es) (given gives fs)
 
+-- room for what joined lists give is room for what the first gives
+pub given-front : {A : Type 0} (gives : A → List ℕ) (es fs : List A) {r : ℕ} → length (given gives (es ++ fs)) ≤ r
+    → length (given gives es) ≤ r
+given-front gives es fs h = omega (arith, given-length gives es fs, h)
+
 -- and of one element more
 pub given-one : {A : Type 0} (gives : A → List ℕ) (es : List A) (e : A) → given gives (es ++ (e ∷ [])) ≡ given gives es ++ gives e
 unfolding given

@@ -9,15 +9,14 @@ use native.Mathlib.Nat.{add-zero, mul-add, le-mul-of-pos-right}
 use native.Mathlib.Omega.{arith}
 use lib.ListN.{length, take, drop, length-append, length-drop, take-append-drop, drop-of-length-le}
 use lib.Seq.{take-append-seam, take-append-add, length-take-le}
-use borrow.Author.Tests.{le-leb}
 use Rattle.run.specs.Head.{Head, element, refused, none, Outcome, accepted, refusal, join, outcome}
 use Rattle.run.specs.Grammar.{Run, done, more, Reads}
 use Rattle.run.specs.declared.Answer.{Answer}
 use Rattle.run.specs.Answers.{answer, countOf, given, writtenOf, roomyAnswer, roomFor}
 use Rattle.run.specs.Put.{Put}
 use Rattle.run.proofs.Outcomes.{outcome-none, outcome-stop, accepts, joined, joined-accepted}
-use Rattle.run.proofs.Answers.{given-append, given-one, given-more, given-length}
-use Rattle.run.proofs.Puts.{put-none, put-both, put-length, put-as, put-over}
+use Rattle.run.proofs.Answers.{given-more, given-length, given-front}
+use Rattle.run.proofs.Puts.{put-none, put-length, put-given, put-given-one, put-given-all}
 
 -- ---- how much an element gives, and a run of elements
 
@@ -53,7 +52,8 @@ pub record Passed {X A : Type 0} (head : List X → Head A) (gives : A → List 
   pub few : Few gives most at es
   pub front : outcome head (take at s) ≡ accepted es
 
-module _ {X A : Type 0} {head : List X → Head A} {S : List X → A → Type 0} (laws : Reads head S) {gives : A → List ℕ} {most : ℕ} (bounded : Bounded S gives most) (s : List X) where
+module _ {X A : Type 0} {head : List X → Head A} {S : List X → A → Type 0} (laws : Reads head S) {gives : A → List ℕ} {most : ℕ}
+    (bounded : Bounded S gives most) (s : List X) where
   pub start : Passed head gives most s 0 []
   unfolding given
   start = record { inside = omega arith; few = record { few = omega arith; short = omega arith }; front = outcome-none laws }
@@ -136,7 +136,8 @@ pub record Counted {X A : Type 0} (head : List X → Head A) (gives : A → List
   pub number : n ≡ length es
   pub counted : count ≡ length (given gives es)
 
-module _ {X A : Type 0} {head : List X → Head A} {S : List X → A → Type 0} (laws : Reads head S) {gives : A → List ℕ} {most : ℕ} (bounded : Bounded S gives most) (s : List X) where
+module _ {X A : Type 0} {head : List X → Head A} {S : List X → A → Type 0} (laws : Reads head S) {gives : A → List ℕ} {most : ℕ}
+    (bounded : Bounded S gives most) (s : List X) where
   pub count-start : Counted head gives most s 0 0 0
   unfolding given
   count-start = record { es = []; passed = start laws bounded s; number = refl; counted = refl }
@@ -182,22 +183,21 @@ module _ {X A : Type 0} {head : List X → Head A} {S : List X → A → Type 0}
         → _≡_ {A = Answer} (answer r n at c) (roomyAnswer gives (length s) (outcome head s))
     count-stop q z = rw (halt laws bounded s (was .passed) q, z, was .number)
 
-    pub count-goes : at < length s → head (drop at s) ≡ none → ⊥
-    count-goes = goes-on laws bounded s (was .passed)
-
 -- ---- filling: what was given so far stands over the buffer's first entries
 
-pub record Filled {X A : Type 0} (head : List X → Head A) (gives : A → List ℕ) (most : ℕ) (s : List X) (l₀ : List ℕ) (at o : ℕ) (l : List ℕ) : Type 0 where
+pub record Filled {X A : Type 0} (head : List X → Head A) (gives : A → List ℕ) (most : ℕ) (s : List X) (l₀ : List ℕ) (at o : ℕ) (l : List ℕ)
+    : Type 0 where
   pub es : List A
   pub passed : Passed head gives most s at es
   pub put : Put l₀ 0 (given gives es) l o
 
 pub room-front : {A : Type 0} (gives : A → List ℕ) (es : List A) (k r : ℕ) (x : Outcome A) → roomFor gives r (join es k x)
     → length (given gives es) ≤ r
-room-front gives es k r (accepted fs) h = omega (arith, given-length gives es fs, h)
+room-front gives es k r (accepted fs) h = given-front gives es fs h
 room-front gives es k r (refusal a b c d) h = absurd h
 
-module _ {X A : Type 0} {head : List X → Head A} {S : List X → A → Type 0} (laws : Reads head S) {gives : A → List ℕ} {most : ℕ} (bounded : Bounded S gives most) (s : List X) (l₀ : List ℕ) where
+module _ {X A : Type 0} {head : List X → Head A} {S : List X → A → Type 0} (laws : Reads head S) {gives : A → List ℕ} {most : ℕ}
+    (bounded : Bounded S gives most) (s : List X) (l₀ : List ℕ) where
   pub fill-start : Filled head gives most s l₀ 0 0 l₀
   unfolding given
   fill-start = record { es = []; passed = start laws bounded s; put = put-none l₀ 0 }
@@ -233,7 +233,7 @@ module _ {X A : Type 0} {head : List X → Head A} {S : List X → A → Type 0}
         record {
           es = was .es ++ fs;
           passed = turns laws bounded s (was .passed) t w r;
-          put = put-as (sym (given-append gives (was .es) fs)) (put-both (was .put) p);
+          put = put-given gives (was .es) fs (was .put) p;
         }
 
     pub fill-turn : {e : A} {k next o′ : ℕ} {l′ : List ℕ} → head (drop at s) ≡ element e k → next ≡ at + k → Put l o (gives e) l′ o′
@@ -242,19 +242,13 @@ module _ {X A : Type 0} {head : List X → Head A} {S : List X → A → Type 0}
         record {
           es = was .es ++ (e ∷ []);
           passed = subst (λ (i : ℕ). Passed head gives most s i (was .es ++ (e ∷ []))) (sym z) (turn laws bounded s (was .passed) q);
-          put = put-as (sym (given-one gives (was .es) e)) (put-both (was .put) p);
+          put = put-given-one gives (was .es) e (was .put) p;
         }
 
     -- at the end the buffer holds what was given, and then the untouched rest
     pub fill-end : length s ≤ at → l ≡ writtenOf gives l₀ (outcome head s)
-    fill-end h =
-        let f = finish laws bounded s (was .passed) h in
-        let k : length (given gives (was .es)) ≤ length l₀ = rw f at room in
-        put-over (was .put) k ∙ rw (f, le-leb (length (given gives (was .es))) (length l₀) k)
+    fill-end h = put-given-all gives (was .put) (finish laws bounded s (was .passed) h) room
 
     -- an accepted list has no refusal on the way
     pub fill-never : {r d : ℕ} → head (drop at s) ≡ refused r d → ⊥
     fill-never q = rw (halt laws bounded s (was .passed) q) at room
-
-    pub fill-goes : at < length s → head (drop at s) ≡ none → ⊥
-    fill-goes = goes-on laws bounded s (was .passed)

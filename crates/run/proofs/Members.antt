@@ -1,7 +1,11 @@
 -- A test over a list, which antt computes, becomes the rule at each member.
 -- Assumes nothing.
-use mathlib.Core.Path.{_≡_, sym, ap, _∙_}
+use Prim.Native.Nat.{ℕ, zero, suc, _<_}
+use mathlib.Core.Path.{_≡_, refl, sym, ap, _∙_}
 use mathlib.Core.List.{List, [], _∷_, _++_, map, List·Memᴰ, List·Memᴰ·head, List·Memᴰ·tail}
+use native.Mathlib.Nat.{le-of-suc-le-suc}
+use native.Mathlib.Omega.{arith}
+use lib.ListN.{length, getD}
 
 -- what stands first in a list, and the list without it
 pub first : {A : Type 0} → A → List A → A
@@ -34,3 +38,9 @@ member-left (List·Memᴰ·tail h) m = List·Memᴰ·tail (member-left h m)
 pub member-right : {A : Type 0} {a : A} (l : List A) {m : List A} → List·Memᴰ a m → List·Memᴰ a (l ++ m)
 member-right [] h = h
 member-right (x ∷ l) h = List·Memᴰ·tail (member-right l h)
+
+-- the entry at a place of a list is a member of it
+pub member-at : {A : Type 0} (l : List A) (d : A) (k : ℕ) → k < length l → List·Memᴰ (getD l k d) l
+member-at [] d k h = absurd (omega arith)
+member-at (a ∷ l) d zero h = List·Memᴰ·head refl
+member-at (a ∷ l) d (suc k) h = List·Memᴰ·tail (member-at l d k (le-of-suc-le-suc h))

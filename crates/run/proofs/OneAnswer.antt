@@ -2,8 +2,9 @@
 -- Assumes nothing.
 use Prim.Native.Nat.{ℕ}
 use mathlib.Core.Path.{_≡_, sym, _∙_}
-use mathlib.Core.List.{List}
-use Rattle.run.specs.Put.{Put}
+use mathlib.Core.List.{List, [], _∷_}
+use Rattle.run.specs.Answers.{bare, shortRoom}
+use Rattle.run.specs.Put.{Put, whatFits}
 
 -- two results that are what was promised, of the same entry, are equal
 abbrev pub Once : {A : Type 0} → A → Type 0
@@ -27,3 +28,10 @@ Once-put out at entries =
 
 pub once-put : (out : List ℕ) (at : ℕ) (entries : List ℕ) → Once-put out at entries
 once-put out at entries a a′ r r′ p q = (p .holds ∙ sym (q .holds), p .place ∙ sym (q .place))
+
+-- Each public function's promise allows only one answer.
+pub table : (number needed at octet : ℕ) (out : List ℕ)
+    → Once (bare number)  -- bare_answer
+    × Once (shortRoom needed)  -- short_room
+    × Once-put out at (whatFits out at (octet ∷ []))  -- put
+table number needed at octet out = (once (bare number), once (shortRoom needed), once-put out at (whatFits out at (octet ∷ [])))

@@ -1,15 +1,18 @@
 -- What a run of writings leaves.
 -- Assumes nothing.
-use Prim.Native.Nat.{ℕ, suc, _+_, _≤_, _<_}
+use Prim.Native.Nat.{ℕ, suc, _+_, _-_, _≤_, _<_}
 use mathlib.Core.Path.{_≡_, refl, sym, ap, ap₂, subst, _∙_}
-use mathlib.Core.List.{List, [], _∷_, _++_}
+use mathlib.Core.List.{List, [], _∷_, _++_, append-assoc, append-nil}
 use native.Mathlib.Nat.{add-zero, zero-add}
 use native.Mathlib.Omega.{arith}
-use lib.ListN.{length, set, length-append}
-use lib.Seq.{sets, sets-eq, length-sets}
+use lib.ListN.{length, set, take, drop, length-append, length-drop, drop-of-length-le}
+use lib.Seq.{sets, sets-eq, length-sets, drop-drop, take-all}
 use borrow.Author.Tests.{le-leb, lt-leb}
+use borrow.Rule.Slice.PartMut.{putMid}
 use Rattle.run.specs.Put.{Put, whatFits}
-use Rattle.run.specs.Answers.{over}
+use Rattle.run.specs.Head.{Outcome, accepted}
+use Rattle.run.specs.Answers.{given, over, writtenOf, roomFor}
+use Rattle.run.proofs.Answers.{given-append, given-one}
 
 sets-append : (l : List ℕ) (i : ℕ) (xs ys : List ℕ) → sets l i (xs ++ ys) ≡ sets (sets l i xs) (i + length xs) ys
 sets-append l i [] ys = ap (λ (k : ℕ). sets l k ys) (omega arith)
@@ -43,6 +46,49 @@ put-over {a} {b} {xs} p h = p .holds ∙ sets-eq xs a 0 (omega arith) ∙ rw zer
 -- what there is room for after a writing
 pub room-rest : {a b : List ℕ} {i j : ℕ} (xs ys : List ℕ) → Put a i xs b j → i + length (xs ++ ys) ≤ length a → j + length ys ≤ length b
 room-rest xs ys p h = omega (arith, length-append xs ys, p .place, put-length p)
+
+-- ---- what elements give, put
+
+-- what some elements give, and then what others give, is what they give joined
+pub put-given : {A : Type 0} (gives : A → List ℕ) (es fs : List A) {a b c : List ℕ} {i j k : ℕ}
+    → Put a i (given gives es) b j → Put b j (given gives fs) c k → Put a i (given gives (es ++ fs)) c k
+put-given gives es fs p q = put-as (sym (given-append gives es fs)) (put-both p q)
+
+pub put-given-one : {A : Type 0} (gives : A → List ℕ) (es : List A) (e : A) {a b c : List ℕ} {i j k : ℕ}
+    → Put a i (given gives es) b j → Put b j (gives e) c k → Put a i (given gives (es ++ (e ∷ []))) c k
+put-given-one gives es e p q = put-as (sym (given-one gives es e)) (put-both p q)
+
+-- where there is room for all, the buffer holds what was given, and then the untouched rest
+pub put-given-all : {A : Type 0} (gives : A → List ℕ) {es : List A} {x : Outcome A} {a b : List ℕ} {j : ℕ} → Put a 0 (given gives es) b j
+    → x ≡ accepted es → roomFor gives (length a) x → b ≡ writtenOf gives a x
+put-given-all gives {es} {a = a} p e room =
+    let k : length (given gives es) ≤ length a = rw e at room in
+    put-over p k ∙ rw (e, le-leb (length (given gives es)) (length a) k)
+
+-- ---- the entries from a place on, lent to a callee
+
+abbrev pub behind : List ℕ → ℕ → List ℕ
+behind l o = take (length l - o) (drop o l)
+
+pub behind-is : (l : List ℕ) (o : ℕ) → behind l o ≡ drop o l
+behind-is l o = take-all (length l - o) (drop o l) (omega (arith, length-drop o l))
+
+pub behind-length : (l : List ℕ) (o : ℕ) → length (behind l o) ≡ length l - o
+behind-length l o = ap length (behind-is l o) ∙ length-drop o l
+
+-- what a callee put over the first of them is put from the place on
+pub behind-put : (l : List ℕ) (o : ℕ) (l′ ws : List ℕ) → o + length ws ≤ length l → l′ ≡ over (behind l o) ws
+    → Put l o ws (putMid o (length l - o) l l′) (o + length ws)
+behind-put l o l′ ws h e =
+    let z : drop (length l - o) (drop o l) ≡ [] = drop-of-length-le (drop o l) {i = length l - o} (omega (arith, length-drop o l)) in
+    record {
+      place = refl;
+      holds =
+          ap₂ (λ (a b : List ℕ). take o l ++ (a ++ b)) (e ∙ ap (λ (k : List ℕ). over k ws) (behind-is l o)) z
+          ∙ ap (λ (k : List ℕ). take o l ++ k) (append-nil _ ∙ ap (λ (k : List ℕ). ws ++ k) (drop-drop (length ws) o l))
+          ∙ sym (append-assoc (take o l) ws (drop (o + length ws) l))
+          ∙ sym (sets-eq ws l o h);
+    }
 
 -- ---- what fits
 

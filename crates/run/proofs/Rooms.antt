@@ -25,18 +25,18 @@ numbered {A = A} {head = head} laws s = go (outcome head s) refl
     go (refusal r n p d) e = placed laws s r n p d e .number
 
 -- the answer, and what the lent buffer l holds after
-abbrev pub Answers : {A : Type 0} → (A → List ℕ) → ℕ → List ℕ → Outcome A → Answer → List ℕ → Type 0
-Answers gives n l x a after = (a ≡ answerOf gives n (length l) x) × (after ≡ writtenOf gives l x)
+abbrev pub WholeAnswer : {A : Type 0} → (A → List ℕ) → ℕ → List ℕ → Outcome A → Answer → List ℕ → Type 0
+WholeAnswer gives n l x a after = (a ≡ answerOf gives n (length l) x) × (after ≡ writtenOf gives l x)
 
 module _ {A : Type 0} (gives : A → List ℕ) (n : ℕ) (l : List ℕ) (m : Answer) where
   -- the first pass refused
-  pub refuses : (x : Outcome A) → m ≡ roomyAnswer gives n x → (m .number ≡ 0 → ⊥) → Answers gives n l x m l
+  pub refuses : (x : Outcome A) → m ≡ roomyAnswer gives n x → (m .number ≡ 0 → ⊥) → WholeAnswer gives n l x m l
   refuses (accepted es) q h = absurd (h (ap (λ (y : Answer). y .number) q))
   refuses (refusal r e p d) q h = (q, refl)
 
   -- the room is short
   pub short : (x : Outcome A) → Numbered x → m ≡ roomyAnswer gives n x → m .number ≡ 0 → length l < m .count
-      → Answers gives n l x (shortRoom (m .count)) l
+      → WholeAnswer gives n l x (shortRoom (m .count)) l
   short (accepted es) z q h k =
       let c : m .count ≡ length (given gives es) = ap (λ (y : Answer). y .count) q in
       let t = lt-leb (length (given gives es)) (length l) (omega arith) in
@@ -63,12 +63,12 @@ as-roomy gives n room (refusal r e p d) h = refl
 module _ {A B : Type 0} (gives : A → List ℕ) (gives′ : B → List ℕ) (n : ℕ) (l : List ℕ) (m : Answer) where
   -- the first is refused, and so is the whole
   pub first-refused : (x : Outcome A) (y : Outcome B) → m ≡ roomyAnswer gives n x → (m .number ≡ 0 → ⊥)
-      → Answers gives′ n l (afterReading x y) m l
+      → WholeAnswer gives′ n l (afterReading x y) m l
   first-refused (accepted es) y q h = absurd (h (ap (λ (y : Answer). y .number) q))
   first-refused (refusal r e p d) y q h = (q, refl)
 
   -- the first is accepted, and the whole is the second
   pub first-accepted : (x : Outcome A) (y : Outcome B) (r : Answer) (l′ : List ℕ) → Numbered x → m ≡ roomyAnswer gives n x → m .number ≡ 0
-      → Answers gives′ n l y r l′ → Answers gives′ n l (afterReading x y) r l′
+      → WholeAnswer gives′ n l y r l′ → WholeAnswer gives′ n l (afterReading x y) r l′
   first-accepted (accepted es) y r l′ z q h a = a
   first-accepted (refusal r₀ e p d) y r l′ z q h a = let w : m .number ≡ r₀ = ap (λ (y : Answer). y .number) q in absurd (omega arith)

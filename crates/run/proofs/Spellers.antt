@@ -33,10 +33,6 @@ reads-as laws same-as =
       inside = laws .inside;
     }
 
-pub bounded-as : {X A : Type 0} {S T : List X → A → Type 0} {gives : A → List ℕ} {most : ℕ} → Bounded S gives most
-    → ((p : List X) (e : A) → S p e ↔ T p e) → Bounded T gives most
-bounded-as b same-as = record { bound = λ p e h. b .bound p e (same-as p e .1 h) }
-
 -- ---- what a speller gives of an element
 
 pub entries-some : (s : List ℕ) (k : ℕ) → (s ≡ [] → ⊥) → entriesOr10 s k ≡ element s k

@@ -16,7 +16,8 @@ use Rattle.run.proofs.Loops as loops
 use Rattle.run.proofs.Loops.{Counted, Filled}
 use Rattle.run.proofs.Spellers.{spelt-here, spelt-not, spelt-refused, spelt-reads, spelt-bounded}
 
-module _ {X A : Type 0} {head : List X → Head A} {S : List X → A → Type 0} (laws : Reads head S) (speller : A → List ℕ) {most : ℕ} (short : (e : A) → length (speller e) ≤ most) (s : List X) where
+module _ {X A : Type 0} {head : List X → Head A} {S : List X → A → Type 0} (laws : Reads head S) (speller : A → List ℕ) {most : ℕ}
+    (short : (e : A) → length (speller e) ≤ most) (s : List X) where
   abbrev Spelt : List X → Head (List ℕ)
   Spelt = speltBy speller head
 
@@ -59,9 +60,6 @@ module _ {X A : Type 0} {head : List X → Head A} {S : List X → A → Type 0}
     fill-spelt-start = loops.fill-start (spelt-reads laws speller) (spelt-bounded laws speller short) s l₀
 
     module _ (room : roomFor same (length l₀) (outcome Spelt s)) {at o : ℕ} {l : List ℕ} (was : Filled Spelt same most s l₀ at o l) where
-      pub fill-spelt-length : length l ≡ length l₀
-      fill-spelt-length = loops.fill-length (spelt-reads laws speller) (spelt-bounded laws speller short) s l₀ room was
-
       pub fill-spelt-end : length s ≤ at → l ≡ writtenOf same l₀ (outcome Spelt s)
       fill-spelt-end = loops.fill-end (spelt-reads laws speller) (spelt-bounded laws speller short) s l₀ room was
 

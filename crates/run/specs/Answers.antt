@@ -1,5 +1,4 @@
--- Proved equal to document 01's table of numbers, where it is stated for a whole input: from what a list comes to, to the four numbers of
--- an answer and to what a lent buffer holds after ("The numbers an answer carries").
+-- The four numbers of an answer, and what a lent buffer holds after ("The numbers an answer carries"). What each part is stands above it.
 -- Assumes nothing.
 use Prim.Native.Nat.{ℕ, _≤_}
 use mathlib.Core.List.{List, [], _∷_, _++_}
@@ -8,6 +7,8 @@ use lib.ListN.{length, drop}
 use Rattle.run.specs.Choice.{pick}
 use Rattle.run.specs.Head.{Outcome, accepted, refusal}
 use Rattle.run.specs.declared.Answer.{Answer}
+
+-- ---- to be believed: the tables of document 01 are stated with these
 
 -- four numbers as an answer
 abbrev pub answer : ℕ → ℕ → ℕ → ℕ → Answer
@@ -30,6 +31,16 @@ unfoldable pub given : {A : Type 0} → (A → List ℕ) → List A → List ℕ
 given gives [] = []
 given gives (e ∷ es) = gives e ++ given gives es
 
+-- the entries ws over the first of a buffer l; the rest untouched
+abbrev pub over : List ℕ → List ℕ → List ℕ
+over l ws = ws ++ drop (length ws) l
+
+-- an element that is known by the entries it gives
+abbrev pub same : List ℕ → List ℕ
+same s = s
+
+-- ---- proved equal to the tables (crates `text_reading`, `text`, `tlx`): an answer and a buffer, by what a list comes to
+
 -- Accepted: 0, elements, input length, entries written; 9 with the room needed where the room is short; a refusal as it is.
 -- n is the input's length, room the length of the lent buffer.
 abbrev pub answerOf : {A : Type 0} → (A → List ℕ) → ℕ → ℕ → Outcome A → Answer
@@ -37,14 +48,12 @@ answerOf gives n room (accepted es) =
     pick (leb (length (given gives es)) room) (answer 0 (length es) n (length (given gives es))) (shortRoom (length (given gives es)))
 answerOf gives n room (refusal r e p d) = answer r e p (countOf r d)
 
--- the entries ws over the first of a buffer l; the rest untouched
-abbrev pub over : List ℕ → List ℕ → List ℕ
-over l ws = ws ++ drop (length ws) l
-
 -- What the lent buffer l holds after: what was given, and then the untouched rest; on any refusal l as it stood.
 abbrev pub writtenOf : {A : Type 0} → (A → List ℕ) → List ℕ → Outcome A → List ℕ
 writtenOf gives l (accepted es) = pick (leb (length (given gives es)) (length l)) (over l (given gives es)) l
 writtenOf gives l (refusal r e p d) = l
+
+-- ---- parts of the code
 
 -- an answer as with room enough
 abbrev pub roomyAnswer : {A : Type 0} → (A → List ℕ) → ℕ → Outcome A → Answer
@@ -55,10 +64,6 @@ roomyAnswer gives n (refusal r e p d) = answer r e p (countOf r d)
 abbrev pub roomFor : {A : Type 0} → (A → List ℕ) → ℕ → Outcome A → Type 0
 roomFor gives r (accepted es) = length (given gives es) ≤ r
 roomFor gives r (refusal n e p d) = ⊥
-
--- an element that is known by the entries it gives
-abbrev pub same : List ℕ → List ℕ
-same s = s
 
 -- the second outcome where the first is accepted, else the refusal of the first
 abbrev pub afterReading : {A B : Type 0} → Outcome A → Outcome B → Outcome B

@@ -93,7 +93,8 @@ module _ (text : List ℕ) (at : ℕ) where
       }
 
   -- the scan at a place, by its octet's outcome
-  scan-at : (vs : List ℕ) (s : Scan) (i : ℕ) (n : Next) → i < length text → stepOf s (getD text i 0) ≡ n → scan vs s (drop i text) ≡ after n vs s (λ ws t. scan ws t (drop (i + 1) text))
+  scan-at : (vs : List ℕ) (s : Scan) (i : ℕ) (n : Next) → i < length text → stepOf s (getD text i 0) ≡ n
+      → scan vs s (drop i text) ≡ after n vs s (λ ws t. scan ws t (drop (i + 1) text))
   unfolding scan
   scan-at vs s i n h e = rw (add-one, drop-cons text i 0 h, e)
 
@@ -127,7 +128,8 @@ module _ (text : List ℕ) (at : ℕ) where
         ∙ ap₂ (λ (l : List ℕ) (k : ℕ). set l k (s .current)) (r .held) (r .standing .closed)
         ∙ pad-snoc 8 (r .closed) (s .current) (omega (arith, r .standing .closed, r .fair .few))
 
-    pub reached-value : {v : Values} (t : Scan) → stepOf s (getD text i 0) ≡ Value t → listOf v ≡ set (listOf values) (s .closed) (s .current) → Reached v t (i + 1)
+    pub reached-value : {v : Values} (t : Scan) → stepOf s (getD text i 0) ≡ Value t
+        → listOf v ≡ set (listOf values) (s .closed) (s .current) → Reached v t (i + 1)
     reached-value t e l =
         let g = says (Value t) e in
         record {
@@ -140,7 +142,8 @@ module _ (text : List ℕ) (at : ℕ) where
           same = sym (scan-at (r .closed) s i (Value t) h e) ∙ r .same;
         }
 
-    pub reached-last : {v : Values} (f : ℕ) → stepOf s (getD text i 0) ≡ Last f → listOf v ≡ set (listOf values) (s .closed) (s .current) → Whole (s .middle) f (s .closed + 1) v (i + 1) ≡ readingAt text at
+    pub reached-last : {v : Values} (f : ℕ) → stepOf s (getD text i 0) ≡ Last f → listOf v ≡ set (listOf values) (s .closed) (s .current)
+        → Whole (s .middle) f (s .closed + 1) v (i + 1) ≡ readingAt text at
     unfolding readingAt
     reached-last {v} f e l =
         let vs = r .closed ++ (s .current ∷ []) in

@@ -18,9 +18,14 @@ use Rattle.sequence_reading.specs.declared.Next.{Next}
 use Rattle.sequence_reading.specs.declared.Next.the-variants.{More, Value, Last, Bad}
 use Rattle.sequence_reading.specs.Kinds.{CSI, kindOf}
 use Rattle.sequence_reading.specs.Grammar as grammar
-use Rattle.sequence_reading.specs.Grammar.{Sequence, Decimal, empty, digit, Parameters, single, joined, Intermediate, one, Small, lastOf, Inside, SpellsSequence, sequence, NotAllowed, no-kind, late-digit, late-separator, second-middle, Passes, passes-999, ninth, Goes, digit-goes, separator-goes, middle-goes, RefusesSequence, ends, not-allowed, passes, fortieth}
-use Rattle.sequence_reading.specs.Reading.{Fair, unlessLate, unlessFull, digitStep, valueStep, middleStep, kindStep, stepOf, after, scan, begun, sequenceHead}
-use Rattle.sequence_reading.proofs.Steps.{middle-says, is-late, not-late, is-full, not-full, digit-passes, digit-within, value-passes, value-within, middle-within, step-as}
+use Rattle.sequence_reading.specs.Grammar.{Sequence, Decimal, empty, digit, Parameters, single, joined, Intermediate, one, Small}
+use Rattle.sequence_reading.specs.Grammar.{lastOf, Inside, SpellsSequence, sequence, NotAllowed, no-kind, late-digit, late-separator}
+use Rattle.sequence_reading.specs.Grammar.{second-middle, Passes, passes-999, ninth, Goes, digit-goes, separator-goes, middle-goes}
+use Rattle.sequence_reading.specs.Grammar.{RefusesSequence, ends, not-allowed, passes, fortieth}
+use Rattle.sequence_reading.specs.Reading.{Fair, unlessLate, unlessFull, digitStep, valueStep, middleStep, kindStep, stepOf, after}
+use Rattle.sequence_reading.specs.Reading.{scan, begun, sequenceHead}
+use Rattle.sequence_reading.proofs.Steps.{middle-says, is-late, not-late, is-full, not-full, digit-passes, digit-within}
+use Rattle.sequence_reading.proofs.Steps.{value-passes, value-within, middle-within, step-as}
 
 -- ---- lists of values
 
@@ -68,11 +73,13 @@ abbrev pub state : ℕ → ℕ → ℕ → ℕ → Scan
 state c k m t = record { current = c; closed = k; middle = m; taken = t }
 
 -- one octet, by its kind
-scan-as : (ws : List ℕ) (s : Scan) (b : ℕ) (rest : List ℕ) (k : Kind) (n : Next) → kindOf b ≡ k → kindStep k s ≡ n → scan ws s (b ∷ rest) ≡ after n ws s (λ vs t. scan vs t rest)
+scan-as : (ws : List ℕ) (s : Scan) (b : ℕ) (rest : List ℕ) (k : Kind) (n : Next) → kindOf b ≡ k → kindStep k s ≡ n
+    → scan ws s (b ∷ rest) ≡ after n ws s (λ vs t. scan vs t rest)
 unfolding scan
 scan-as ws s b rest k n e q = rw (step-as s b k e ∙ q)
 
-through-decimal : {s : List ℕ} {v : ℕ} → Decimal s v → (ws rest : List ℕ) (k t : ℕ) → v ≤ 999 → t + length s ≤ 39 → scan ws (state 0 k 0 t) (s ++ rest) ≡ scan ws (state v k 0 (t + length s)) rest
+through-decimal : {s : List ℕ} {v : ℕ} → Decimal s v → (ws rest : List ℕ) (k t : ℕ) → v ≤ 999 → t + length s ≤ 39
+    → scan ws (state 0 k 0 t) (s ++ rest) ≡ scan ws (state v k 0 (t + length s)) rest
 through-decimal empty ws rest k t h g = ap (λ (n : ℕ). scan ws (state 0 k 0 n) rest) (omega arith)
 through-decimal (digit {s} {v} {d} b dec e) ws rest k t h g =
     let l = snoc-length s b in
@@ -82,7 +89,9 @@ through-decimal (digit {s} {v} {d} b dec e) ws rest k t h g =
     ∙ scan-as ws here b rest (Digit d) _ e (digit-within here d (v * 10 + d) refl h ∙ not-late here _ refl ∙ not-full here _ (omega arith))
     ∙ ap (λ (n : ℕ). scan ws (state (v * 10 + d) k 0 n) rest) (omega arith)
 
-through-parameters : {p vs : List ℕ} → Parameters p vs → (cs : List ℕ) (c : ℕ) → vs ≡ cs ++ (c ∷ []) → (ws rest : List ℕ) (k t : ℕ) → Small vs → k + length cs ≤ 7 → t + length p ≤ 39 → scan ws (state 0 k 0 t) (p ++ rest) ≡ scan (ws ++ cs) (state c (k + length cs) 0 (t + length p)) rest
+through-parameters : {p vs : List ℕ} → Parameters p vs → (cs : List ℕ) (c : ℕ) → vs ≡ cs ++ (c ∷ []) → (ws rest : List ℕ) (k t : ℕ)
+    → Small vs → k + length cs ≤ 7 → t + length p ≤ 39
+    → scan ws (state 0 k 0 t) (p ++ rest) ≡ scan (ws ++ cs) (state c (k + length cs) 0 (t + length p)) rest
 through-parameters (single {s} {v} dec) [] c w ws rest k t h n g =
     let e : v ≡ c = cc in
     through-decimal dec ws rest k t (h .0) g
@@ -101,7 +110,8 @@ through-parameters (joined {s} {p} {vs} {v} b dec e ps) (x ∷ cs) c w ws rest k
     ∙ through-parameters ps cs c wr (ws ++ (v ∷ [])) rest (k + 1) (t + length s + 1) (h .1) (omega arith) (omega arith)
     ∙ simp (append-assoc, vx) (ap₂ (λ (i j : ℕ). scan (ws ++ (x ∷ cs)) (state c i 0 j) rest) (omega arith) (omega arith))
 
-through-middle : {i : List ℕ} {m : ℕ} → Intermediate i m → (ws rest : List ℕ) (c k t : ℕ) → t + length i ≤ 39 → scan ws (state c k 0 t) (i ++ rest) ≡ scan ws (state c k m (t + length i)) rest
+through-middle : {i : List ℕ} {m : ℕ} → Intermediate i m → (ws rest : List ℕ) (c k t : ℕ) → t + length i ≤ 39
+    → scan ws (state c k 0 t) (i ++ rest) ≡ scan ws (state c k m (t + length i)) rest
 through-middle grammar.none ws rest c k t h = ap (λ (n : ℕ). scan ws (state c k 0 n) rest) (omega arith)
 through-middle (one {b} {i} e) ws rest c k t h =
     let here = state c k 0 t in
@@ -143,11 +153,13 @@ step-not-allowed (late-digit {m} {d} h) s e = digit-late s d (omega arith)
 step-not-allowed (late-separator h) s e = value-late s (omega arith)
 step-not-allowed (second-middle {m} {i} h) s e = middle-within s i ∙ is-late s _ (omega arith)
 
-step-passes : {vs : List ℕ} {k : Kind} → Passes vs k → (s : Scan) → s .middle ≡ 0 → s .current ≡ lastOf vs → s .closed + 1 ≡ length vs → kindStep k s ≡ Bad 7
+step-passes : {vs : List ℕ} {k : Kind} → Passes vs k → (s : Scan) → s .middle ≡ 0 → s .current ≡ lastOf vs → s .closed + 1 ≡ length vs
+    → kindStep k s ≡ Bad 7
 step-passes (passes-999 {vs} {d} h) s m c n = digit-passes s d (omega arith) ∙ not-late s _ m
 step-passes (ninth h) s m c n = value-passes s (omega arith) ∙ not-late s _ m
 
-step-fortieth : {m : ℕ} {vs : List ℕ} {k : Kind} → Goes m vs k → (s : Scan) → s .middle ≡ m → s .current ≡ lastOf vs → s .closed + 1 ≡ length vs → s .taken ≡ 39 → kindStep k s ≡ Bad 8
+step-fortieth : {m : ℕ} {vs : List ℕ} {k : Kind} → Goes m vs k → (s : Scan) → s .middle ≡ m → s .current ≡ lastOf vs
+    → s .closed + 1 ≡ length vs → s .taken ≡ 39 → kindStep k s ≡ Bad 8
 step-fortieth (digit-goes {vs} {d} h) s m c n t =
     digit-within s d (s .current * 10 + d) refl (omega arith) ∙ not-late s _ m ∙ is-full s _ (omega arith)
 step-fortieth (separator-goes h) s m c n t = value-within s (omega arith) ∙ not-late s _ m ∙ is-full s _ (omega arith)
@@ -158,10 +170,12 @@ module _ {s vs : List ℕ} {m : ℕ} (h : Inside s m vs) where
   closed-count = sym (ap length (closed-last vs (some-value (h .valued))) ∙ snoc-length (closedOf vs) (lastOf vs))
 
   -- one octet more
-  arrive-at : (b : ℕ) (t : List ℕ) (n : Next) → kindStep (kindOf b) (stateOf s m vs) ≡ n → sequenceHead (s ++ (b ∷ t)) ≡ after n (closedOf vs) (stateOf s m vs) (λ ws u. scan ws u t)
+  arrive-at : (b : ℕ) (t : List ℕ) (n : Next) → kindStep (kindOf b) (stateOf s m vs) ≡ n
+      → sequenceHead (s ++ (b ∷ t)) ≡ after n (closedOf vs) (stateOf s m vs) (λ ws u. scan ws u t)
   arrive-at b t n e = arrive h (b ∷ t) ∙ scan-as (closedOf vs) (stateOf s m vs) b t (kindOf b) n refl e
 
-  arrive-final : (b f : ℕ) (t : List ℕ) → kindOf b ≡ Final f → sequenceHead (s ++ (b ∷ t)) ≡ element (record { middle = m; last = f; values = vs }) (length s + 1)
+  arrive-final : (b f : ℕ) (t : List ℕ) → kindOf b ≡ Final f
+      → sequenceHead (s ++ (b ∷ t)) ≡ element (record { middle = m; last = f; values = vs }) (length s + 1)
   arrive-final b f t e =
       arrive-at b t (Last f) (rw e)
       ∙ rw (← closed-last vs (some-value (h .valued)))
@@ -179,7 +193,8 @@ refusal-found (fortieth {s} {vs} {m} b t h l n) = arrive-at h b t (Bad 8) (step-
 
 -- ---- from the reader to the grammar
 
-snoc-digit : {p vs : List ℕ} {d : ℕ} → Parameters p vs → (ws : List ℕ) (c b : ℕ) → vs ≡ ws ++ (c ∷ []) → kindOf b ≡ Digit d → Parameters (p ++ (b ∷ [])) (ws ++ ((c * 10 + d) ∷ []))
+snoc-digit : {p vs : List ℕ} {d : ℕ} → Parameters p vs → (ws : List ℕ) (c b : ℕ) → vs ≡ ws ++ (c ∷ []) → kindOf b ≡ Digit d
+    → Parameters (p ++ (b ∷ [])) (ws ++ ((c * 10 + d) ∷ []))
 snoc-digit (single {s} {v} dec) [] c b w e = let vc : v ≡ c = cc in rw (← vc) (single (digit b dec e))
 snoc-digit (single dec) (x ∷ ws) c b w e = absurd (not-snoc ws c (cc))
 snoc-digit (joined b′ dec e′ ps) [] c b w e = absurd (omega (arith, some-value ps, ap length w))
@@ -260,13 +275,15 @@ module _ (s ws : List ℕ) (a : Scan) (b : ℕ) (h : Standing s ws a) where
   says-8 k e f n t = fortieth b t (h .inside) (omega (arith, h .taken, h .inside .short)) (rw e n)
 
   -- after an intermediate 6; at the 40th octet 8
-  unless-late-says : (k : Kind) (n : Next) → kindOf b ≡ k → (0 < a .middle → NotAllowed (a .middle) k) → (a .middle ≡ 0 → Says s ws a b n) → Says s ws a b (unlessLate a n)
+  unless-late-says : (k : Kind) (n : Next) → kindOf b ≡ k → (0 < a .middle → NotAllowed (a .middle) k) → (a .middle ≡ 0 → Says s ws a b n)
+      → Says s ws a b (unlessLate a n)
   unless-late-says k n e late f =
       pick-case (Says s ws a b) (eqb (a .middle) 0) n (Bad 6)
       (λ z. f (eqb-true (a .middle) 0 z))
       (λ z. let y : a .middle ≡ 0 → ⊥ = eqb-false (a .middle) 0 z in says-6 k e (late (omega arith)))
 
-  unless-full-says : (k : Kind) (n : Next) → kindOf b ≡ k → Goes (a .middle) values k → (a .taken < 39 → Says s ws a b n) → Says s ws a b (unlessFull a n)
+  unless-full-says : (k : Kind) (n : Next) → kindOf b ≡ k → Goes (a .middle) values k → (a .taken < 39 → Says s ws a b n)
+      → Says s ws a b (unlessFull a n)
   unless-full-says k n e g f =
       pick-case (Says s ws a b) (leb 39 (a .taken)) (Bad 8) n
       (λ z. says-8 k e (leb-true 39 (a .taken) z) g)
@@ -274,7 +291,8 @@ module _ (s ws : List ℕ) (a : Scan) (b : ℕ) (h : Standing s ws a) where
 
   -- one octet more, of parameters or an intermediate
   module _ (z : a .middle ≡ 0) (r : a .taken < 39) where
-    inside-parameter : (vs : List ℕ) → Parameters (h .inside .parameters ++ (b ∷ [])) vs → Small vs → length vs ≤ 8 → Inside (s ++ (b ∷ [])) 0 vs
+    inside-parameter : (vs : List ℕ) → Parameters (h .inside .parameters ++ (b ∷ [])) vs → Small vs → length vs ≤ 8
+        → Inside (s ++ (b ∷ [])) 0 vs
     inside-parameter vs p small few =
         record {
           parameters = h .inside .parameters ++ (b ∷ []);
@@ -372,7 +390,9 @@ Tells u (element q k) = Begins SpellsSequence u q k
 Tells u (refused r d) = RefusesSequence u r d
 Tells u none = ⊥
 
-after-tells : (s ws : List ℕ) (a : Scan) (b : ℕ) (t : List ℕ) → Standing s ws a → (rest : List ℕ → Scan → Head Sequence) → ((vs : List ℕ) (c : Scan) → Standing (s ++ (b ∷ [])) vs c → Tells (s ++ (b ∷ t)) (rest vs c)) → (n : Next) → Says s ws a b n → Tells (s ++ (b ∷ t)) (after n ws a rest)
+after-tells : (s ws : List ℕ) (a : Scan) (b : ℕ) (t : List ℕ) → Standing s ws a → (rest : List ℕ → Scan → Head Sequence)
+    → ((vs : List ℕ) (c : Scan) → Standing (s ++ (b ∷ [])) vs c → Tells (s ++ (b ∷ t)) (rest vs c)) → (n : Next) → Says s ws a b n
+    → Tells (s ++ (b ∷ t)) (after n ws a rest)
 after-tells s ws a b t h rest ih (More c) n = ih ws c n
 after-tells s ws a b t h rest ih (Value c) n = ih (ws ++ (a .current ∷ [])) c n
 after-tells s ws a b t h rest ih (Last f) n =

@@ -86,10 +86,12 @@ sequence-reads =
     }
 
 -- The answer at a place has the number that the grammar refuses with, at the deciding octet's place.
-pub reading-refused : (text : List ℕ) (at : ℕ) (t : List ℕ) (r d : ℕ) → drop at text ≡ CSI ∷ t → RefusesSequence (CSI ∷ t) r d → (readingAt text at ≡ Refused r (at + d)) × (readingNumber (readingAt text at) ≡ r)
+pub reading-refused : (text : List ℕ) (at : ℕ) (t : List ℕ) (r d : ℕ) → drop at text ≡ CSI ∷ t → RefusesSequence (CSI ∷ t) r d
+    → (readingAt text at ≡ Refused r (at + d)) × (readingNumber (readingAt text at) ≡ r)
 unfolding readingAt
 reading-refused text at t r d e h =
-    let q : readingAt text at ≡ Refused r (at + d) = ap (λ (u : List ℕ). readingOf at (sequenceHead u)) e ∙ ap (readingOf at) (refuses-exactly t r d .1 h) in
+    let q : readingAt text at ≡ Refused r (at + d) =
+    ap (λ (u : List ℕ). readingOf at (sequenceHead u)) e ∙ ap (readingOf at) (refuses-exactly t r d .1 h) in
     (q, ap readingNumber q)
 
 spelt-eight : {p : List ℕ} {q : Sequence} → SpellsSequence p q → length (q .values) ≤ 8

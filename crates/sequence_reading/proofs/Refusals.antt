@@ -9,7 +9,8 @@ use lib.ListN.{length, take}
 use lib.Seq.{take-append-add, take-append-seam, take-length}
 use Rattle.run.specs.Head.{Head, refused}
 use Rattle.sequence_reading.specs.Kinds.{CSI}
-use Rattle.sequence_reading.specs.Grammar.{Sequence, Inside, SpellsSequence, sequence, RefusesSequence, ends, not-allowed, passes, fortieth}
+use Rattle.sequence_reading.specs.Grammar.{Sequence, Inside, SpellsSequence, sequence, RefusesSequence, ends, not-allowed, passes}
+use Rattle.sequence_reading.specs.Grammar.{fortieth}
 use Rattle.sequence_reading.specs.Reading.{sequenceHead}
 use Rattle.sequence_reading.proofs.Steps.{kind-final}
 use Rattle.sequence_reading.proofs.Reach.{Tells, refusal-found}
@@ -27,13 +28,15 @@ still-refused (not-allowed {s} b u h n) _ t = rw (up-to s b u t) (not-allowed b 
 still-refused (passes {s} b u h n) _ t = rw (up-to s b u t) (passes b t h n)
 still-refused (fortieth {s} b u h l n) _ t = rw (up-to s b u t) (fortieth b t h l n)
 
-stays-by : {s : List ℕ} {h : Head Sequence} → Beginning s h → (r d : ℕ) → h ≡ refused r d → (r ≡ 4 → ⊥) → (t : List ℕ) → sequenceHead (take (suc d) s ++ t) ≡ refused r d
+stays-by : {s : List ℕ} {h : Head Sequence} → Beginning s h → (r d : ℕ) → h ≡ refused r d → (r ≡ 4 → ⊥) → (t : List ℕ)
+    → sequenceHead (take (suc d) s ++ t) ≡ refused r d
 stays-by nothing r d e n t = let z : _≡_ {A = ℕ} 0 1 = cc in absurd (omega arith)
 stays-by (foreign {b} m) r d e n t = let ed : d ≡ 0 = cc in rw ed (foreign-refused b t m ∙ e ∙ rw ed)
 stays-by (told {t = u} x) r d e n t = refusal-found (still-refused (subst (Tells (CSI ∷ u)) e x) n t)
 
 -- An answer other than 4 does not change whatever follows its deciding octet.
-pub stays : (s : List ℕ) (r d : ℕ) → sequenceHead s ≡ refused r d → (r ≡ 4 → ⊥) → (t : List ℕ) → sequenceHead (take (suc d) s ++ t) ≡ refused r d
+pub stays : (s : List ℕ) (r d : ℕ) → sequenceHead s ≡ refused r d → (r ≡ 4 → ⊥) → (t : List ℕ)
+    → sequenceHead (take (suc d) s ++ t) ≡ refused r d
 stays s r d e n t = stays-by (beginning s) r d e n t
 
 inside-before : {s : List ℕ} {r d : ℕ} → RefusesSequence s r d → (m : ℕ) × (vs : List ℕ) × Inside (take d s) m vs
@@ -54,7 +57,8 @@ pub record Goes-on (s : List ℕ) (d : ℕ) : Type 0 where
 pub goes-on : {s : List ℕ} {r d : ℕ} → RefusesSequence s r d → Goes-on s d
 goes-on {s} {r} {d} k =
     let i = inside-before k in
-    let e : take d s ++ (0x40 ∷ []) ≡ CSI ∷ ((i .2 .parameters ++ i .2 .intermediate) ++ (0x40 ∷ [])) = ap (λ (l : List ℕ). l ++ (0x40 ∷ [])) (i .2 .whole) in
+    let e : take d s ++ (0x40 ∷ []) ≡ CSI ∷ ((i .2 .parameters ++ i .2 .intermediate) ++ (0x40 ∷ [])) =
+    ap (λ (l : List ℕ). l ++ (0x40 ∷ [])) (i .2 .whole) in
     let q : Sequence = record { middle = i .0; last = 0x40; values = i .1 } in
     record {
       more = 0x40 ∷ [];

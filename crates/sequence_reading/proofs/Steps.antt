@@ -2,10 +2,9 @@
 -- Assumes nothing.
 use Prim.Native.Nat.{ℕ, _+_, _*_, _-_, _≤_, _<_}
 use mathlib.Core.Path.{_≡_, refl}
-use mathlib.Core.Bool.{Bool, true, false}
 use native.Mathlib.Omega.{arith}
-use lib.Dec.{leb, eqb}
-use borrow.Author.Tests.{le-leb, lt-leb, leb-true, eq-eqb, ne-eqb}
+use lib.Dec.{eqb}
+use borrow.Author.Tests.{le-leb, lt-leb, eq-eqb, ne-eqb}
 use Rattle.run.specs.Choice.{pick, within}
 use Rattle.run.proofs.Choices.{pick-case, within-range}
 use Rattle.run.proofs.Range as range
@@ -74,7 +73,8 @@ module _ (s : Scan) where
   unfolding digitStep
   digit-passes d h = simp (lt-leb (s .current * 10 + d) 999 h)
 
-  pub digit-within : (d v : ℕ) → v ≡ s .current * 10 + d → v ≤ 999 → digitStep s d ≡ unlessLate s (unlessFull s (More (record { current = v; closed = s .closed; middle = 0; taken = s .taken + 1 })))
+  pub digit-within : (d v : ℕ) → v ≡ s .current * 10 + d → v ≤ 999
+      → digitStep s d ≡ unlessLate s (unlessFull s (More (record { current = v; closed = s .closed; middle = 0; taken = s .taken + 1 })))
   unfolding digitStep
   digit-within d v e h = simp (e, le-leb (s .current * 10 + d) 999 (omega arith))
 
@@ -82,11 +82,14 @@ module _ (s : Scan) where
   unfolding valueStep
   value-passes h = simp (le-leb 7 (s .closed) h)
 
-  pub value-within : s .closed < 7 → valueStep s ≡ unlessLate s (unlessFull s (Value (record { current = 0; closed = s .closed + 1; middle = 0; taken = s .taken + 1 })))
+  pub value-within : s .closed < 7
+      → valueStep s ≡ unlessLate s (unlessFull s (Value (record { current = 0; closed = s .closed + 1; middle = 0; taken = s .taken + 1 })))
   unfolding valueStep
   value-within h = simp (lt-leb 7 (s .closed) h)
 
-  pub middle-within : (i : ℕ) → middleStep s i ≡ unlessLate s (unlessFull s (More (record { current = s .current; closed = s .closed; middle = i; taken = s .taken + 1 })))
+  pub middle-within : (i : ℕ)
+      → middleStep s i
+      ≡ unlessLate s (unlessFull s (More (record { current = s .current; closed = s .closed; middle = i; taken = s .taken + 1 })))
   unfolding middleStep
   middle-within i = refl
 

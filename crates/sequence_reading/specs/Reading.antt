@@ -1,5 +1,5 @@
 -- Proved equal to the grammar (Reader: sequence-reads, refuses-exactly): what the reader of a control sequence answers, octet by octet,
--- from the 9B on.
+-- from the 9B on. To be believed: `listOf` and `valuesOf`, the eight values of a struct, and `readingNumber`, 01's number of each answer.
 -- Assumes nothing.
 use Prim.Native.Nat.{ℕ, _+_, _*_, _≤_}
 use mathlib.Core.List.{List, [], _∷_, _++_}

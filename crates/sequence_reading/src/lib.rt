@@ -3,7 +3,8 @@ ghost use mathlib.Core.Path.{_≡_};
 ghost use Prim.Native.Nat.{_<_};
 ghost use lib.ListN.{set, getD};
 ghost use Rattle.sequence_reading.specs.Kinds.{kindOf};
-ghost use Rattle.sequence_reading.specs.Reading.{Fair, unlessLate, unlessFull, digitStep, valueStep, middleStep, stepOf, listOf, readingAt};
+ghost use Rattle.sequence_reading.specs.Reading.{Fair, unlessLate, unlessFull, digitStep, valueStep, middleStep, stepOf};
+ghost use Rattle.sequence_reading.specs.Reading.{listOf, readingAt};
 
 // What an octet is inside a sequence, and what it means there.
 pub enum Kind {
@@ -43,7 +44,8 @@ pub struct Values {
     pub v7: u32,
 }
 
-// What stands at a place: a whole sequence with the place after it; a refusal (4, 6, 7, 8) with its deciding octet; nothing, at or past the end.
+// What stands at a place: a whole sequence with the place after it; a refusal (4, 6, 7, 8) with its deciding octet; nothing, at or past
+// the end.
 pub enum Reading {
     Whole {
         middle: u8,
@@ -210,8 +212,8 @@ pub fn value_at(v: Values, k: usize) -> u32
     }
 }
 
-// Reads the sequence at `at`. A place where no 9B stands is refused at once; 01: "Asked at or past the end of the text, it answers that none
-// is left."
+// Reads the sequence at `at`. A place where no 9B stands is refused at once; 01: "Asked at or past the end of the text, it answers that
+// none is left."
 pub fn read_sequence(text: &[u8], at: usize) -> Reading
     ensures { λ r. ⌜ r ≡ readingAt (now (text .entry)) at ⌝ }
 {

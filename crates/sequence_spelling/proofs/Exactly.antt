@@ -13,9 +13,12 @@ use Rattle.run.specs.Choice.{pick, within}
 use Rattle.run.proofs.Choices.{pick-case, both-true, within-range}
 use Rattle.sequence_reading.specs.Kinds.{CSI}
 use Rattle.sequence_reading.specs.Grammar as grammar
-use Rattle.sequence_reading.specs.Grammar.{Sequence, Decimal, empty, digit, Parameters, Intermediate, Small, Inside, SpellsSequence, sequence}
+use Rattle.sequence_reading.specs.Grammar.{Sequence, Decimal, empty, digit, Parameters, Intermediate, Small, Inside, SpellsSequence}
+use Rattle.sequence_reading.specs.Grammar.{sequence}
 use Rattle.sequence_spelling.specs.SequenceOctets as spelling
-use Rattle.sequence_spelling.specs.SequenceOctets.{Numeral, first, next, Numerals, single, joined, MiddleOctet, one, Fine, CanonicalSequence, canonical, last1, last2, last3, digitsOf, spellRest, spellValues, spellMiddle, spellSequence, allSmall, isFine}
+use Rattle.sequence_spelling.specs.SequenceOctets.{Numeral, first, next, Numerals, single, joined, MiddleOctet, one, Fine}
+use Rattle.sequence_spelling.specs.SequenceOctets.{CanonicalSequence, canonical, last1, last2, last3, digitsOf, spellRest}
+use Rattle.sequence_spelling.specs.SequenceOctets.{spellValues, spellMiddle, spellSequence, allSmall, isFine}
 use Rattle.sequence_reading.proofs.Steps.{kind-digit, kind-separator, kind-middle, kind-final}
 
 -- ---- a value
@@ -36,7 +39,8 @@ pub digits-three : (v : ℕ) → 100 ≤ v → digitsOf v ≡ last3 v
 unfolding digitsOf
 digits-three v g = simp (le-ltb v 1 (omega arith), le-ltb v 10 (omega arith), le-ltb v 100 g)
 
-digits-case : (P : List ℕ → Type 0) (v : ℕ) → (v < 1 → P []) → (1 ≤ v → v < 10 → P (last1 v)) → (10 ≤ v → v < 100 → P (last2 v)) → (100 ≤ v → P (last3 v)) → P (digitsOf v)
+digits-case : (P : List ℕ → Type 0) (v : ℕ) → (v < 1 → P []) → (1 ≤ v → v < 10 → P (last1 v)) → (10 ≤ v → v < 100 → P (last2 v))
+    → (100 ≤ v → P (last3 v)) → P (digitsOf v)
 unfolding digitsOf
 digits-case P v d0 d1 d2 d3 =
     pick-case P (ltb v 1) [] (pick (ltb v 10) (last1 v) (pick (ltb v 100) (last2 v) (last3 v)))
@@ -68,7 +72,9 @@ numeral v small =
     (λ g.
     let a = v / 100 % 10 in
     let b = v / 10 % 10 in
-    numeral-more v (v % 10) (numeral-more (a * 10 + b) b (numeral-one a a (omega arith) (omega arith) refl) (omega arith) (omega arith) refl) (omega arith) (omega arith) (omega arith))
+    numeral-more v (v % 10)
+    (numeral-more (a * 10 + b) b (numeral-one a a (omega arith) (omega arith) refl) (omega arith) (omega arith) refl) (omega arith)
+    (omega arith) (omega arith))
 
 digits-next : (v d : ℕ) → 0 < v → v ≤ 99 → d ≤ 9 → digitsOf v ++ ((0x30 + d) ∷ []) ≡ digitsOf (v * 10 + d)
 digits-next v d h g f =
@@ -186,11 +192,6 @@ spell-size q =
       length-append (spellValues (q .values)) (spellMiddle (q .middle) ++ (q .last ∷ [])),
       length-append (spellMiddle (q .middle)) (q .last ∷ []),
     )
-
--- A spelling begins with 9B.
-pub begins-csi : (q : Sequence) → spellSequence q ≡ CSI ∷ (spellValues (q .values) ++ (spellMiddle (q .middle) ++ (q .last ∷ [])))
-unfolding spellSequence
-begins-csi q = refl
 
 -- A spelling has an octet.
 pub size-some : (q : Sequence) → 0 < length (spellSequence q)

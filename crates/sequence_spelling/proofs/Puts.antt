@@ -12,7 +12,8 @@ use Rattle.run.specs.Put.{Put, whatFits}
 use Rattle.run.proofs.Puts.{put-none, put-both, put-as, put-length, put-one, all-fit, none-fits}
 use Rattle.sequence_reading.specs.Kinds.{CSI}
 use Rattle.sequence_reading.specs.Grammar.{Sequence, Small}
-use Rattle.sequence_spelling.specs.SequenceOctets.{Fine, digitsOf, spellRest, spellValues, spellMiddle, spellSequence, isFine, sizeOf, putSequence}
+use Rattle.sequence_spelling.specs.SequenceOctets.{Fine, digitsOf, spellRest, spellValues, spellMiddle, spellSequence, isFine, sizeOf}
+use Rattle.sequence_spelling.specs.SequenceOctets.{putSequence}
 use Rattle.sequence_spelling.proofs.Exactly.{rest-size, spell-size, size-some, fine-test, middle-none, middle-one}
 
 -- ---- what can be spelt
@@ -35,12 +36,14 @@ small-each (v ∷ vs) h = (h 0 (omega arith), small-each vs (λ k g. h (suc k) (
 
 -- ---- the size
 
-rest-cons : (values : List ℕ) (k : ℕ) → k < length values → spellRest (drop k values) ≡ (0x3B ∷ digitsOf (getD values k 0)) ++ spellRest (drop (k + 1) values)
+rest-cons : (values : List ℕ) (k : ℕ) → k < length values
+    → spellRest (drop k values) ≡ (0x3B ∷ digitsOf (getD values k 0)) ++ spellRest (drop (k + 1) values)
 unfolding spellRest
 rest-cons values k h = rw (add-one, drop-cons values k 0 h)
 
 -- what one value takes of the rest
-pub rest-step : (values : List ℕ) (k : ℕ) → k < length values → length (spellRest (drop k values)) ≡ 1 + length (digitsOf (getD values k 0)) + length (spellRest (drop (k + 1) values))
+pub rest-step : (values : List ℕ) (k : ℕ) → k < length values
+    → length (spellRest (drop k values)) ≡ 1 + length (digitsOf (getD values k 0)) + length (spellRest (drop (k + 1) values))
 rest-step values k h =
     omega (arith, ap length (rest-cons values k h), length-append (digitsOf (getD values k 0)) (spellRest (drop (k + 1) values)))
 
@@ -56,12 +59,14 @@ full-size : (q : Sequence) → isFine q ≡ true → sizeOf q ≡ length (spellS
 unfolding sizeOf
 full-size q e = rw e
 
-pub size-bare : (m f : ℕ) (vs : List ℕ) → isFine (record { middle = m; last = f; values = vs }) ≡ true → m ≡ 0 → length (spellRest vs) + 1 ≡ sizeOf (record { middle = m; last = f; values = vs })
+pub size-bare : (m f : ℕ) (vs : List ℕ) → isFine (record { middle = m; last = f; values = vs }) ≡ true → m ≡ 0
+    → length (spellRest vs) + 1 ≡ sizeOf (record { middle = m; last = f; values = vs })
 size-bare m f vs e z =
     let q : Sequence = record { middle = m; last = f; values = vs } in
     omega (arith, full-size q e, spell-size q, rest-size vs (fine-test q .0 e .some), ap length (middle-none m z))
 
-pub size-middle : (m f : ℕ) (vs : List ℕ) → isFine (record { middle = m; last = f; values = vs }) ≡ true → (m ≡ 0 → ⊥) → length (spellRest vs) + 1 + 1 ≡ sizeOf (record { middle = m; last = f; values = vs })
+pub size-middle : (m f : ℕ) (vs : List ℕ) → isFine (record { middle = m; last = f; values = vs }) ≡ true → (m ≡ 0 → ⊥)
+    → length (spellRest vs) + 1 + 1 ≡ sizeOf (record { middle = m; last = f; values = vs })
 size-middle m f vs e z =
     let q : Sequence = record { middle = m; last = f; values = vs } in
     omega (arith, full-size q e, spell-size q, rest-size vs (fine-test q .0 e .some), ap length (middle-one m z))
@@ -76,7 +81,8 @@ tight : (out : List ℕ) (at : ℕ) (q : Sequence) → isFine q ≡ true → len
 unfolding putSequence
 tight out at q e h = rw e (none-fits out at (spellSequence q) h)
 
-wide : (out : List ℕ) (at : ℕ) (q : Sequence) → isFine q ≡ true → at + length (spellSequence q) ≤ length out → putSequence out at q ≡ spellSequence q
+wide : (out : List ℕ) (at : ℕ) (q : Sequence) → isFine q ≡ true → at + length (spellSequence q) ≤ length out
+    → putSequence out at q ≡ spellSequence q
 unfolding putSequence
 wide out at q e h = rw e (all-fit out at (spellSequence q) h)
 
@@ -106,7 +112,8 @@ module _ (out : List ℕ) (at : ℕ) (q : Sequence) where
     pub sized : sizeOf q ≡ length (spellSequence q)
     sized = full-size q (fine-by (isFine q) refl some)
 
-    pub put-spelt : {after : List ℕ} {r : ℕ} → at + sizeOf q ≤ length out → Put out at (spellSequence q) after r → Put out at (putSequence out at q) after r
+    pub put-spelt : {after : List ℕ} {r : ℕ} → at + sizeOf q ≤ length out → Put out at (spellSequence q) after r
+        → Put out at (putSequence out at q) after r
     put-spelt h p = put-as (sym (wide out at q (fine-by (isFine q) refl some) (omega (arith, sized)))) p
 
 -- how far `put_rest` has come: what is written, and what is left
@@ -131,7 +138,8 @@ module _ (out₀ : List ℕ) (at : ℕ) (values : List ℕ) where
           rest-step values k h,
         )
 
-    pub partly-more : {a b : List ℕ} {j n : ℕ} → k < length values → Put out i (0x3B ∷ []) a j → Put a j (digitsOf (getD values k 0)) b n → Partly out₀ at values b n (k + 1)
+    pub partly-more : {a b : List ℕ} {j n : ℕ} → k < length values → Put out i (0x3B ∷ []) a j → Put a j (digitsOf (getD values k 0)) b n
+        → Partly out₀ at values b n (k + 1)
     partly-more h p q =
         record {
           done = s .done ++ (0x3B ∷ digitsOf (getD values k 0));
@@ -152,13 +160,17 @@ module _ (out₀ : List ℕ) (at : ℕ) (values : List ℕ) where
         (s .put)
 
 -- a spelling by its parts, in the order in which they are written
-pub whole-parts : (m f : ℕ) (vs : List ℕ) → 1 ≤ length vs → (CSI ∷ []) ++ (digitsOf (getD vs 0 0) ++ (spellRest (drop 1 vs) ++ (spellMiddle m ++ (f ∷ [])))) ≡ spellSequence (record { middle = m; last = f; values = vs })
+pub whole-parts : (m f : ℕ) (vs : List ℕ) → 1 ≤ length vs
+    → (CSI ∷ []) ++ (digitsOf (getD vs 0 0) ++ (spellRest (drop 1 vs) ++ (spellMiddle m ++ (f ∷ []))))
+    ≡ spellSequence (record { middle = m; last = f; values = vs })
 unfolding spellSequence spellValues
 whole-parts m f [] h = absurd (omega arith)
 whole-parts m f (v ∷ vs) h =
     ap (λ (l : List ℕ). CSI ∷ l) (sym (append-assoc (digitsOf v) (spellRest vs) (spellMiddle m ++ (f ∷ []))))
 
-whole-size : (m f : ℕ) (vs : List ℕ) → 1 ≤ length vs → length (spellSequence (record { middle = m; last = f; values = vs })) ≡ 1 + length (digitsOf (getD vs 0 0)) + length (spellRest (drop 1 vs)) + length (spellMiddle m) + 1
+whole-size : (m f : ℕ) (vs : List ℕ) → 1 ≤ length vs
+    → length (spellSequence (record { middle = m; last = f; values = vs }))
+    ≡ 1 + length (digitsOf (getD vs 0 0)) + length (spellRest (drop 1 vs)) + length (spellMiddle m) + 1
 whole-size m f vs h =
     omega (
       arith,
@@ -169,7 +181,8 @@ whole-size m f vs h =
     )
 
 -- Where there is room for the spelling, there is room for each part after those before it, and the parts are the whole.
-module _ (m f : ℕ) (vs out : List ℕ) (at : ℕ) (some : 1 ≤ length vs) (room : at + length (spellSequence (record { middle = m; last = f; values = vs })) ≤ length out) where
+module _ (m f : ℕ) (vs out : List ℕ) (at : ℕ) (some : 1 ≤ length vs)
+    (room : at + length (spellSequence (record { middle = m; last = f; values = vs })) ≤ length out) where
   module _ {a : List ℕ} {i : ℕ} (first : Put out at (whatFits out at (CSI ∷ [])) a i) where
     start : Put out at (CSI ∷ []) a i
     start = put-one (omega (arith, whole-size m f vs some)) first
@@ -189,4 +202,5 @@ module _ (m f : ℕ) (vs out : List ℕ) (at : ℕ) (some : 1 ≤ length vs) (ro
             → Put out at (spellSequence (record { middle = m; last = f; values = vs })) e n
         whole-put p q =
             put-as (whole-parts m f vs some)
-            (put-both start (put-both value (put-both others (put-both p (put-one (omega (arith, middle-room, p .place, put-length p)) q)))))
+            (put-both start (put-both value
+            (put-both others (put-both p (put-one (omega (arith, middle-room, p .place, put-length p)) q)))))

@@ -3,7 +3,8 @@ ghost use mathlib.Core.Path.{_≡_};
 ghost use Prim.Native.Nat.{_+_, _%_, _≤_};
 ghost use lib.ListN.{length, drop};
 ghost use Rattle.run.specs.Put.{Put};
-ghost use Rattle.sequence_spelling.specs.SequenceOctets.{digitsOf, spellRest, spellMiddle, spellSequence, isFine, sizeOf, putSequence};
+ghost use Rattle.sequence_spelling.specs.SequenceOctets.{digitsOf, spellRest, spellMiddle, spellSequence};
+ghost use Rattle.sequence_spelling.specs.SequenceOctets.{isFine, sizeOf, putSequence};
 
 // Whether these can be a sequence. 01: an intermediate of 20 to 2F or none, a final of 40 to 7E, "at most 8 values, each at most 999", and
 // "always one value at least".
@@ -137,7 +138,8 @@ fn put_middle(out: &mut [u8], at: usize, middle: u8) -> usize
 fn put_whole(middle: u8, last: u8, values: &[u32], out: &mut [u8], at: usize) -> usize
     requires { ⌜ 1 ≤ length (now values) ⌝ }
     requires { ⌜ at + length (spellSequence (record { middle = middle; last = last; values = now values })) ≤ length (now out) ⌝ }
-    ensures { λ r. ⌜ Put (now (out .entry)) at (spellSequence (record { middle = middle; last = last; values = now (values .entry) })) (now (out .exit)) r ⌝ }
+    ensures { λ r. ⌜ Put (now (out .entry)) at
+        (spellSequence (record { middle = middle; last = last; values = now (values .entry) })) (now (out .exit)) r ⌝ }
 {
     let a = run::put(out, at, 0x9B);
     let b = put_value(out, a, values[0]);
@@ -146,10 +148,11 @@ fn put_whole(middle: u8, last: u8, values: &[u32], out: &mut [u8], at: usize) ->
     run::put(out, d, last)
 }
 
-// Spells the sequence at `at` of `out` and answers the place after it; where these cannot be a sequence or the room is short, it does nothing
-// and answers `at`.
+// Spells the sequence at `at` of `out` and answers the place after it; where these cannot be a sequence or the room is short, it does
+// nothing and answers `at`.
 pub fn put_sequence(middle: u8, last: u8, values: &[u32], out: &mut [u8], at: usize) -> usize
-    ensures { λ r. ⌜ Put (now (out .entry)) at (putSequence (now (out .entry)) at (record { middle = middle; last = last; values = now (values .entry) })) (now (out .exit)) r ⌝ }
+    ensures { λ r. ⌜ Put (now (out .entry)) at
+        (putSequence (now (out .entry)) at (record { middle = middle; last = last; values = now (values .entry) })) (now (out .exit)) r ⌝ }
 {
     let size = sequence_size(middle, last, values);
     if size == 0 {

@@ -42,46 +42,16 @@ record Tested (a : Alphabet) : Type 0 where
   pub control : AllBelow 0x100 (λ o. o) (a .controls)
   pub mark : AllBelow 0x100 meaning (a .marks)
   pub graphic : AllBelow 0x8000 meaning (a .graphics)
-  pub shifted-graphic : AllBelow 0x10000 meaning (a .shiftedGraphics)
+  pub shifted : AllBelow 0x10000 meaning (a .shiftedGraphics)
 
 tested : (f : Form) → Tested (alphabetOf f)
 unfolding alphabetOf
 tested Eight =
-    record {
-      spaces = refl;
-      shift = refl;
-      underline = refl;
-      sequence = refl;
-      control = refl;
-      mark = refl;
-      graphic = refl;
-      shifted-graphic =
-          refl;
-    }
+    record { spaces = refl; shift = refl; underline = refl; sequence = refl; control = refl; mark = refl; graphic = refl; shifted = refl }
 tested Seven =
-    record {
-      spaces = refl;
-      shift = refl;
-      underline = refl;
-      sequence = refl;
-      control = refl;
-      mark = refl;
-      graphic = refl;
-      shifted-graphic =
-          refl;
-    }
+    record { spaces = refl; shift = refl; underline = refl; sequence = refl; control = refl; mark = refl; graphic = refl; shifted = refl }
 tested Basic =
-    record {
-      spaces = refl;
-      shift = refl;
-      underline = refl;
-      sequence = refl;
-      control = refl;
-      mark = refl;
-      graphic = refl;
-      shifted-graphic =
-          refl;
-    }
+    record { spaces = refl; shift = refl; underline = refl; sequence = refl; control = refl; mark = refl; graphic = refl; shifted = refl }
 
 -- SPACE is a graphic in each form
 pub space-sorts : (f : Form) → sortIn f 0x20 ≡ Graphic 0x20
@@ -126,7 +96,7 @@ pub graphic-small : (f : Form) (o c : ℕ) → sortIn f o ≡ Graphic c → c < 
 graphic-small f o c e = below 0x8000 meaning (sort-says f o (Graphic c) e) (tested f .graphic)
 
 pub shifted-graphic-small : (f : Form) (o c : ℕ) → shiftedIn f o ≡ Graphic c → c < 0x10000
-shifted-graphic-small f o c e = below 0x10000 meaning (shifted-says f o (Graphic c) e) (tested f .shifted-graphic)
+shifted-graphic-small f o c e = below 0x10000 meaning (shifted-says f o (Graphic c) e) (tested f .shifted)
 
 -- ---- refusals
 

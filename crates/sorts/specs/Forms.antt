@@ -12,17 +12,17 @@ use Rattle.sorts.specs.Tables.{Row, row, letters, primary, primary-3, su
 
 infix 70 _names_
 -- a number, and the form that it names
-pub data Numbered : Type 0 where
-  _names_ : ℕ → Form → Numbered
+pub data NamedForm : Type 0 where
+  _names_ : ℕ → Form → NamedForm
 
-abbrev pub numberOf : Numbered → ℕ
+abbrev pub numberOf : NamedForm → ℕ
 numberOf (n names f) = n
 
-abbrev pub formIn : Numbered → Form
+abbrev pub formIn : NamedForm → Form
 formIn (n names f) = f
 
 -- "Form 1: T51String, eight bits"; "Form 2: T51String, seven bits"; "Form 3: basic T.61"
-abbrev pub forms : List Numbered
+abbrev pub forms : List NamedForm
 forms = 1 names Eight ∷ 2 names Seven ∷ 3 names Basic ∷ []
 
 -- the form of a number

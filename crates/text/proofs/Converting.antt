@@ -11,7 +11,7 @@ use Rattle.run.specs.Grammar.{Run, RunOf, done, more, Stopped}
 use Rattle.run.specs.declared.Answer.{Answer}
 use Rattle.run.specs.Answers.{given, same, afterReading}
 use Rattle.run.proofs.Outcomes as outcomes
-use Rattle.run.proofs.Rooms.{Answers, numbered, first-refused, first-accepted}
+use Rattle.run.proofs.Rooms.{WholeAnswer, numbered, first-refused, first-accepted}
 use Rattle.run.proofs.Spellers.{spelt-not, Why, why}
 use Rattle.sorts.specs.declared.Form.{Form}
 use Rattle.sorts.specs.declared.FormFound.the-variants.{Is}
@@ -23,13 +23,13 @@ use Rattle.element_reading.specs.Reading.{headIn}
 use Rattle.element_reading.proofs.Reader.{reads, begins-head}
 use Rattle.element_spelling.specs.ElementOctets.{CanonicalElement, Held, spellElement}
 use Rattle.element_spelling.proofs.Writer.{canonical-given, canonical-some, read-held}
-use Rattle.text_reading.specs.Answers.{readIn, limit, readAnswer}
+use Rattle.text_reading.specs.ReadAnswers.{readIn, limit, readAnswer}
 use Rattle.text_reading.proofs.Edges.{a-form, within}
 use Rattle.text_reading.proofs.ByTable.{Meets}
-use Rattle.text_reading.proofs.Reading.{accepted-exactly, read-meets, measure-is}
+use Rattle.text_reading.proofs.ReadTexts.{accepted-exactly, read-meets, measure-is}
 use Rattle.text.specs.Outcomes.{Respells, respellHead, respellIn, convertIn}
-use Rattle.text.specs.Answers.{convertAnswer, convertText}
-use Rattle.text.specs.Table.{FirstNotHeld, ConvertingFault}
+use Rattle.text.specs.WriteAnswers.{convertAnswer, convertText}
+use Rattle.text.specs.WritingNumbers.{FirstNotHeld, ConvertingFault}
 use Rattle.text.proofs.Respelling.{respell-reads, respells-of, held-proper}
 
 module _ (f g : Form) where
@@ -165,12 +165,13 @@ module _ (f g h : Form) where
 
 -- ---- the answers, where both forms are known and the text is within the limit
 
-module _ (source target : ℕ) (f g : Form) (is-source : formOf source ≡ Is f) (is-target : formOf target ≡ Is g) (text out : List ℕ) (inside : length text ≤ limit) where
+module _ (source target : ℕ) (f g : Form) (is-source : formOf source ≡ Is f) (is-target : formOf target ≡ Is g)
+    (text out : List ℕ) (inside : length text ≤ limit) where
   -- what a conversion promises: its answer, and what the lent buffer holds after
   abbrev Promised : Answer → List ℕ → Type 0
   Promised r out′ = (r ≡ convertAnswer source target text (length out)) × (out′ ≡ convertText source target text out)
 
-  pub converted : (r : Answer) (out′ : List ℕ) → Answers same (length text) out (convertIn f g text) r out′ → Promised r out′
+  pub converted : (r : Answer) (out′ : List ℕ) → WholeAnswer same (length text) out (convertIn f g text) r out′ → Promised r out′
   unfolding convertAnswer convertText
   converted r out′ e = (
     a-form _ _ _ _ _ is-source (a-form _ _ _ _ _ is-target (e .0 ∙ within text _ _ inside)),
@@ -187,9 +188,10 @@ module _ (source target : ℕ) (f g : Form) (is-source : formOf source ≡ Is f)
         (measured ∙ measure-is source f is-source text inside) h)
 
     -- the reading is accepted, and the conversion is the respelling
-    pub is-read : m .number ≡ 0 → (r : Answer) (out′ : List ℕ) → Answers same (length text) out (respellIn f g text) r out′
+    pub is-read : m .number ≡ 0 → (r : Answer) (out′ : List ℕ) → WholeAnswer same (length text) out (respellIn f g text) r out′
         → Promised r out′
     unfolding convertIn
     is-read h r out′ e =
         let q = measured ∙ measure-is source f is-source text inside in
-        converted r out′ (first-accepted wordsOf same (length text) out m (readIn f text) (respellIn f g text) r out′ (numbered (reads f) text) q h e)
+        converted r out′
+        (first-accepted wordsOf same (length text) out m (readIn f text) (respellIn f g text) r out′ (numbered (reads f) text) q h e)

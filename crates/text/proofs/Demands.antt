@@ -1,6 +1,6 @@
 -- The theorems of record: what the public functions of this crate are worth. They speak of the definitions that the contracts cite
--- (`readAnswer`, `readWords` and the like), in the words of the grammar (`Spells`, `Refuses`, `CanonicalElement`, `Held`), over the form. The
--- sentence above each is the demand's that it carries out; document 01's own words stand in quotation marks.
+-- (`readAnswer`, `readWords` and the like), in the words of the grammar (`Spells`, `Refuses`, `CanonicalElement`, `Held`), over the form.
+-- The sentence above each is the demand's that it carries out; document 01's own words stand in quotation marks.
 -- Assumes nothing.
 use Prim.Native.Nat.{ℕ, _+_, _≤_, _<_}
 use mathlib.Core.Path.{_≡_, refl, sym, ap, ap₂, _∙_, subst, subst₂}
@@ -32,26 +32,26 @@ use Rattle.element_spelling.specs.ElementOctets.{CanonicalElement, Held, Writes
 use Rattle.element_reading.proofs.Reader.{reads}
 use Rattle.element_reading.proofs.Places.{reading-number}
 use Rattle.element_spelling.proofs.Writer.{canonical-spells, one-spelling, read-held, writer-reads, writer-refuses-exactly}
-use Rattle.text_reading.specs.Answers.{readIn, limit, within-limit, readAnswer, readWords, loneStep}
-use Rattle.text_reading.specs.Table.{Answered, Formed, Tells, ReadingFault, ReadTable, LoneTable}
+use Rattle.text_reading.specs.ReadAnswers.{readIn, limit, within-limit, readAnswer, readWords, loneStep}
+use Rattle.text_reading.specs.ReadingNumbers.{Answered, Formed, Tells, ReadingFault, ReadTable, LoneTable}
 use Rattle.text_reading.proofs.Edges.{a-form}
 use Rattle.text_reading.proofs.ByTable.{Meets, by-table, by-form, in-its-form, no-form-exactly, tells, kept-in-form}
 use Rattle.text_reading.proofs.Steps.{count-is-place}
-use Rattle.text_reading.proofs.Reading.{read-meets, words-fit}
+use Rattle.text_reading.proofs.ReadTexts.{read-meets, words-fit}
 use Rattle.text_reading.proofs.Lone.{lone-exactly}
 use Rattle.text.specs.Outcomes.{Respells, writeIn, convertIn}
-use Rattle.text.specs.Answers.{writeAnswer, writeText, convertAnswer, convertText}
-use Rattle.text.specs.Table.{WritingFault, ConvertingFault, WriteTable, ConvertTable}
+use Rattle.text.specs.WriteAnswers.{writeAnswer, writeText, convertAnswer, convertText}
+use Rattle.text.specs.WritingNumbers.{WritingFault, ConvertingFault, WriteTable, ConvertTable}
 use Rattle.text.proofs.Respelling.{respell-reads}
 use Rattle.text.proofs.Converting.{converted, convert-meets, respelt-means, read-converts, Alike, respelt-alike}
-use Rattle.text.proofs.Readings.{All, readings, sixteen}
+use Rattle.text.proofs.SixteenReadings.{All, readings, sixteen}
 use Rattle.sorts.specs.Forms.{NoForm}
 use Rattle.sorts.proofs.FormNumbers.{none-exactly}
 
 -- ======== Demand 1: every input gets an answer, and each number is given exactly when document 01's table and order say so
 
--- Each number from 1 to 12 is given exactly when the table and its order say so, with its element, place and count: the four numbers, and what
--- the lent buffer holds after, are those of the table's row.
+-- Each number from 1 to 12 is given exactly when the table and its order say so, with its element, place and count: the four numbers, and
+-- what the lent buffer holds after, are those of the table's row.
 pub read-exactly : (form : ℕ) (text words : List ℕ) (a : Answer) (after : List ℕ)
     → ((readAnswer form text (length words) ≡ a) × (readWords form text words ≡ after)) ↔ ReadTable form text words a after
 unfolding readAnswer readWords
@@ -70,13 +70,14 @@ unfolding writeAnswer writeText
 write-exactly form words text = by-form form text _ _ _ (λ f. by-table same _ _ (writeIn f words) (write-meets f words) words text)
 
 pub convert-exactly : (source target : ℕ) (text out : List ℕ) (a : Answer) (after : List ℕ)
-    → ((convertAnswer source target text (length out) ≡ a) × (convertText source target text out ≡ after)) ↔ ConvertTable source target text out a after
+    → ((convertAnswer source target text (length out) ≡ a) × (convertText source target text out ≡ after))
+    ↔ ConvertTable source target text out a after
 unfolding convertAnswer convertText
 convert-exactly source target text out =
     by-form source out _ _ _ (λ f. by-form target out _ _ _ (λ g. by-table same _ _ (convertIn f g text) (convert-meets f g text) text out))
 
--- A text is measured by reading it with room for as many words as it has octets, which is never short (`room-enough`): the text itself stands
--- for the lent buffer here.
+-- A text is measured by reading it with room for as many words as it has octets, which is never short (`measure-never-9`): the text itself
+-- stands for the lent buffer here.
 pub measure-exactly : (form : ℕ) (text : List ℕ) (a : Answer) (after : List ℕ)
     → ((readAnswer form text (length text) ≡ a) × (readWords form text text ≡ after)) ↔ ReadTable form text text a after
 measure-exactly form text = read-exactly form text text
@@ -102,21 +103,24 @@ converting-numbered f g text r n p d h = go h
     go (ConvertingFault.not-held run k) = (omega arith, omega arith, λ e. omega arith)
 
 pub read-tells : (form : ℕ) (f : Form) → formOf form ≡ Is f → (text words : List ℕ)
-    → Tells wordsOf (RunOf (Spells f) text) (ReadingFault f text) text words (readAnswer form text (length words)) (readWords form text words)
+    → Tells wordsOf (RunOf (Spells f) text) (ReadingFault f text) text words (readAnswer form text (length words))
+    (readWords form text words)
 unfolding readAnswer readWords
 read-tells form f q text words =
     tells (reading-numbered f text)
     (in-its-form form words _ _ _ (λ g. by-table wordsOf _ _ (readIn g text) (read-meets g text) text words) f q)
 
 pub write-tells : (form : ℕ) (f : Form) → formOf form ≡ Is f → (words text : List ℕ)
-    → Tells same (RunOf (Writes f) words) (WritingFault f words) words text (writeAnswer form words (length text)) (writeText form words text)
+    → Tells same (RunOf (Writes f) words) (WritingFault f words) words text (writeAnswer form words (length text))
+    (writeText form words text)
 unfolding writeAnswer writeText
 write-tells form f q words text =
     tells (writing-numbered f words)
     (in-its-form form text _ _ _ (λ g. by-table same _ _ (writeIn g words) (write-meets g words) words text) f q)
 
 pub convert-tells : (source target : ℕ) (f g : Form) → formOf source ≡ Is f → formOf target ≡ Is g → (text out : List ℕ)
-    → Tells same (RunOf (Respells f g) text) (ConvertingFault f g text) text out (convertAnswer source target text (length out)) (convertText source target text out)
+    → Tells same (RunOf (Respells f g) text) (ConvertingFault f g text) text out (convertAnswer source target text (length out))
+    (convertText source target text out)
 unfolding convertAnswer convertText
 convert-tells source target f g q p text out =
     subst₂ (Tells same (RunOf (Respells f g) text) (ConvertingFault f g text) text out) (a-form _ _ _ _ _ q refl) (a-form _ _ _ _ _ q refl)
@@ -159,7 +163,8 @@ convert-11 source target text out = (forth (formOf source) (formOf target) refl 
   where
     answer-by : FormFound → FormFound → Answer
     answer-by x y =
-        inForm x (bare 11) (λ f. inForm y (bare 11) (λ g. within-limit text (bare 12) (answerOf same (length text) (length out) (convertIn f g text))))
+        inForm x (bare 11) (λ f. inForm y (bare 11)
+        (λ g. within-limit text (bare 12) (answerOf same (length text) (length out) (convertIn f g text))))
 
     forth : (x y : FormFound) → formOf source ≡ x → formOf target ≡ y → answer-by x y .number ≡ 11 → NoForm source ⊎ NoForm target
     forth (Is f) (Is g) q p e =
@@ -236,6 +241,10 @@ room-enough form f q text words h e =
     let t = read-tells form f q text words .is-9 e in
     omega (arith, t .3, words-fit (t .2 .1))
 
+-- so 9 is never given where a text is measured.
+pub measure-never-9 : (form : ℕ) (f : Form) → formOf form ≡ Is f → (text : List ℕ) → readAnswer form text (length text) .number ≡ 9 → ⊥
+measure-never-9 form f q text = let l : length text ≤ length text = omega arith in room-enough form f q text text l
+
 -- Each public function's promise allows one answer. The definitions are those of the functions' `ensures`.
 pub one-answer : (form target : ℕ) (text words out : List ℕ) (at : ℕ)
     → Once (readAnswer form text (length text))  -- measure
@@ -256,7 +265,8 @@ one-answer form target text words out at = (
 module _ (form : ℕ) (f : Form) (is-form : formOf form ≡ Is f) where
   -- A text within the limit, with room enough lent, is accepted exactly when it is a run of elements of its form,
   pub accepts-exactly : (text words : List ℕ)
-      → (readAnswer form text (length words) .number ≡ 0) ↔ ((es : List Element) × (length text ≤ limit) × RunOf (Spells f) text es × (length (given wordsOf es) ≤ length words))
+      → (readAnswer form text (length words) .number ≡ 0)
+      ↔ ((es : List Element) × (length text ≤ limit) × RunOf (Spells f) text es × (length (given wordsOf es) ≤ length words))
   accepts-exactly text words = (
     λ e. let t = read-tells form f is-form text words .is-0 e in (t .0, t .1, t .2, t .3),
     λ h. ap (λ (a : Answer). a .number)
@@ -266,12 +276,15 @@ module _ (form : ℕ) (f : Form) (is-form : formOf form ≡ Is f) where
   -- with exactly their words and number
   pub read-accepted : (text words : List ℕ) (es : List Element) → length text ≤ limit → RunOf (Spells f) text es
       → length (given wordsOf es) ≤ length words
-      → (readAnswer form text (length words) ≡ answer 0 (length es) (length text) (length (given wordsOf es))) × (readWords form text words ≡ over words (given wordsOf es))
+      → (readAnswer form text (length words) ≡ answer 0 (length es) (length text) (length (given wordsOf es)))
+      × (readWords form text words ≡ over words (given wordsOf es))
   read-accepted text words es l r h = read-exactly form text words _ _ .1 (Formed.of-form is-form (Answered.accepted l r h))
 
   -- What stands before a reading refusal is accepted, with exactly that many elements.
   pub before-refused : (text words : List ℕ) (r n p c : ℕ) → 1 ≤ r → r ≤ 8 → readAnswer form text (length words) ≡ answer r n p c
-      → (front : List ℕ) × (rest : List ℕ) × (es : List Element) × (text ≡ front ++ rest) × ((room : List ℕ) → length (given wordsOf es) ≤ length room → readAnswer form front (length room) ≡ answer 0 n p (length (given wordsOf es)))
+      → (front : List ℕ) × (rest : List ℕ) × (es : List Element) × (text ≡ front ++ rest)
+      × ((room : List ℕ) → length (given wordsOf es) ≤ length room
+      → readAnswer form front (length room) ≡ answer 0 n p (length (given wordsOf es)))
   before-refused text words r n p c h k e =
       let t =
       subst (λ (a : Answer). Tells wordsOf (RunOf (Spells f) text) (ReadingFault f text) text words a (readWords form text words)) e
@@ -352,7 +365,8 @@ module _ (form : ℕ) (f : Form) (is-form : formOf form ≡ Is f) where
   -- Each list of elements that a form holds is written, in its canonical spelling (within the limit, with room enough lent),
   pub write-accepted : (s text : List ℕ) (es : List Element) → length (given wordsOf es) ≤ limit → AllHeld f es
       → RunOf (CanonicalElement f) s es → length s ≤ length text
-      → (writeAnswer form (given wordsOf es) (length text) ≡ answer 0 (length es) (length (given wordsOf es)) (length s)) × (writeText form (given wordsOf es) text ≡ over text s)
+      → (writeAnswer form (given wordsOf es) (length text) ≡ answer 0 (length es) (length (given wordsOf es)) (length s))
+      × (writeText form (given wordsOf es) text ≡ over text s)
   write-accepted s text es l a r h =
       let w = writes-run f a (r .1) in
       let e =
@@ -365,7 +379,8 @@ module _ (form : ℕ) (f : Form) (is-form : formOf form ≡ Is f) where
 
   -- and nothing else is.
   pub written-means : (words text : List ℕ) → writeAnswer form words (length text) .number ≡ 0
-      → (s : List ℕ) × (es : List Element) × AllHeld f es × (words ≡ given wordsOf es) × RunOf (CanonicalElement f) s es × (writeAnswer form words (length text) ≡ answer 0 (length es) (length words) (length s)) × (writeText form words text ≡ over text s)
+      → (s : List ℕ) × (es : List Element) × AllHeld f es × (words ≡ given wordsOf es) × RunOf (CanonicalElement f) s es
+      × (writeAnswer form words (length text) ≡ answer 0 (length es) (length words) (length s)) × (writeText form words text ≡ over text s)
   written-means words text e =
       let t = write-tells form f is-form words text .is-0 e in
       let w = written-run f (t .2 .1) in (
@@ -382,11 +397,12 @@ module _ (form : ℕ) (f : Form) (is-form : formOf form ≡ Is f) where
   -- That spelling, if within the limit, reads back as that list.
   pub reads-back : (s words : List ℕ) (es : List Element) → length s ≤ limit → RunOf (CanonicalElement f) s es
       → length (given wordsOf es) ≤ length words
-      → (readAnswer form s (length words) ≡ answer 0 (length es) (length s) (length (given wordsOf es))) × (readWords form s words ≡ over words (given wordsOf es))
+      → (readAnswer form s (length words) ≡ answer 0 (length es) (length s) (length (given wordsOf es)))
+      × (readWords form s words ≡ over words (given wordsOf es))
   reads-back s words es l r = read-accepted form f is-form s words es l (r .0, canonical-run f (r .1))
 
-  -- Words within the limit are refused with 10 at the first that is no element held: behind a run of elements that the form writes, no words of one
-  -- that it holds stand first.
+  -- Words within the limit are refused with 10 at the first that is no element held: behind a run of elements that the form writes, no
+  -- words of one that it holds stand first.
   pub write-refused : (words text : List ℕ) (n p : ℕ) → length words ≤ limit
       → (writeAnswer form words (length text) ≡ answer 10 n p 0) ↔ ((d : ℕ) × WritingFault f words 10 n p d)
   write-refused words text n p l = (forth, λ h. write-exactly form words text _ _ .1 (Formed.of-form is-form (Answered.fault l (h .1))) .0)
@@ -438,7 +454,8 @@ module _ (source target : ℕ) (f g : Form) (is-source : formOf source ≡ Is f)
   -- What it writes is the target's canonical spelling of what the source text means, where the target holds that,
   pub convert-accepted : (text s out : List ℕ) (es : List Element) → length text ≤ limit → RunOf (Spells f) text es → AllHeld g es
       → RunOf (CanonicalElement g) s es → length s ≤ length out
-      → (convertAnswer source target text (length out) ≡ answer 0 (length es) (length text) (length s)) × (convertText source target text out ≡ over out s)
+      → (convertAnswer source target text (length out) ≡ answer 0 (length es) (length text) (length s))
+      × (convertText source target text out ≡ over out s)
   convert-accepted text s out es l r a c h =
       let w = respelt-run f g (r .1) a (c .1) in
       let e =
@@ -498,7 +515,10 @@ module _ (source target : ℕ) (f g : Form) (is-source : formOf source ≡ Is f)
 module _ (form : ℕ) (f : Form) (is-form : formOf form ≡ Is f) where
   -- Within a form it is respelling: every text that is read is respelt, never refused with 10;
   pub respelt : (text : List ℕ) (es : List Element) → length text ≤ limit → RunOf (Spells f) text es
-      → (s : List ℕ) × RunOf (CanonicalElement f) s es × ((out : List ℕ) → length s ≤ length out → (convertAnswer form form text (length out) ≡ answer 0 (length es) (length text) (length s)) × (convertText form form text out ≡ over out s))
+      → (s : List ℕ) × RunOf (CanonicalElement f) s es
+      × ((out : List ℕ) → length s ≤ length out
+      → (convertAnswer form form text (length out) ≡ answer 0 (length es) (length text) (length s))
+      × (convertText form form text out ≡ over out s))
   respelt text es l r =
       let a = read-all-held f (r .1) in
       let c = has-canonical f a in
@@ -512,11 +532,14 @@ module _ (form : ℕ) (f : Form) (is-form : formOf form ≡ Is f) where
 
 -- ======== Demand 3: joined texts, and conversions one after another
 
-module _ (form : ℕ) (f : Form) (is-form : formOf form ≡ Is f) (s t : List ℕ) (within : length (s ++ t) ≤ limit) (es : List Element) (first : RunOf (Spells f) s es) where
+module _ (form : ℕ) (f : Form) (is-form : formOf form ≡ Is f) (s t : List ℕ) (within : length (s ++ t) ≤ limit)
+    (es : List Element) (first : RunOf (Spells f) s es) where
   -- Two accepted texts of one form, joined, are accepted and mean both meanings joined, with room enough lent.
   pub joined-read : (words : List ℕ) (fs : List Element) → RunOf (Spells f) t fs
       → length (given wordsOf es ++ given wordsOf fs) ≤ length words
-      → (readAnswer form (s ++ t) (length words) ≡ answer 0 (length (es ++ fs)) (length (s ++ t)) (length (given wordsOf es ++ given wordsOf fs))) × (readWords form (s ++ t) words ≡ over words (given wordsOf es ++ given wordsOf fs))
+      → (readAnswer form (s ++ t) (length words)
+      ≡ answer 0 (length (es ++ fs)) (length (s ++ t)) (length (given wordsOf es ++ given wordsOf fs)))
+      × (readWords form (s ++ t) words ≡ over words (given wordsOf es ++ given wordsOf fs))
   joined-read words fs r h =
       subst (λ (u : List ℕ). (readAnswer form (s ++ t) (length words) ≡ answer 0 (length (es ++ fs)) (length (s ++ t)) (length u)) ×
       (readWords form (s ++ t) words ≡ over words u)) (given-append wordsOf es fs)
@@ -539,14 +562,17 @@ module _ (form : ℕ) (f : Form) (is-form : formOf form ≡ Is f) (s t : List �
       a .0 ∙ ap (answer r (length es + n) (length s + p))
       (sym (count-is-place r (length s + v .0) k) ∙ ap (λ (i : ℕ). length s + i) (sym (v .3 ∙ sym (count-is-place r (v .0) k))))
 
-module _ (source target : ℕ) (f g : Form) (is-source : formOf source ≡ Is f) (is-target : formOf target ≡ Is g) (s t : List ℕ) (within : length (s ++ t) ≤ limit) (es fs : List Element) (first : RunOf (Spells f) s es) (second : RunOf (Spells f) t fs) (all-held : AllHeld g es) (u : List ℕ) (spelling : RunOf (CanonicalElement g) u es) where
+module _ (source target : ℕ) (f g : Form) (is-source : formOf source ≡ Is f) (is-target : formOf target ≡ Is g)
+    (s t : List ℕ) (within : length (s ++ t) ≤ limit) (es fs : List Element) (first : RunOf (Spells f) s es)
+    (second : RunOf (Spells f) t fs) (all-held : AllHeld g es) (u : List ℕ) (spelling : RunOf (CanonicalElement g) u es) where
   held-append : {xs ys : List Element} → AllHeld g xs → AllHeld g ys → AllHeld g (xs ++ ys)
   held-append none b = b
   held-append (and h a) b = and h (held-append a b)
 
   -- Two texts joined respell as the two respelt and joined,
   pub joined-converted : (v out : List ℕ) → AllHeld g fs → RunOf (CanonicalElement g) v fs → length (u ++ v) ≤ length out
-      → (convertAnswer source target (s ++ t) (length out) ≡ answer 0 (length (es ++ fs)) (length (s ++ t)) (length (u ++ v))) × (convertText source target (s ++ t) out ≡ over out (u ++ v))
+      → (convertAnswer source target (s ++ t) (length out) ≡ answer 0 (length (es ++ fs)) (length (s ++ t)) (length (u ++ v)))
+      × (convertText source target (s ++ t) out ≡ over out (u ++ v))
   joined-converted v out a c h =
       convert-accepted source target f g is-source is-target (s ++ t) (u ++ v) out (es ++ fs) within (run-append (first .1) (second .1))
       (held-append all-held a) (run-append (spelling .1) (c .1)) h
@@ -570,7 +596,8 @@ module _ (source target : ℕ) (f g : Form) (is-source : formOf source ≡ Is f)
 
 -- both forms are known, and the text is within the limit
 in-two-forms : (source target : ℕ) (f g : Form) → formOf source ≡ Is f → formOf target ≡ Is g → (text out : List ℕ) → length text ≤ limit
-    → (convertAnswer source target text (length out) ≡ answerOf same (length text) (length out) (convertIn f g text)) × (convertText source target text out ≡ writtenOf same out (convertIn f g text))
+    → (convertAnswer source target text (length out) ≡ answerOf same (length text) (length out) (convertIn f g text))
+    × (convertText source target text out ≡ writtenOf same out (convertIn f g text))
 in-two-forms source target f g q p text out l =
     let e = converted source target f g q p text out l _ _ (refl, refl) in (sym (e .0), sym (e .1))
 
@@ -586,18 +613,28 @@ alike-answers : (n m : ℕ) (l : List ℕ) (x y : Outcome (List ℕ)) → Alike 
 alike-answers n m l (accepted ss) y a = rw a (go (leb (length (given same ss)) (length l)))
   where
     go : (t : Bool)
-        → Same (pick t (answer 0 (length ss) n (length (given same ss))) (shortRoom (length (given same ss)))) (pick t (answer 0 (length ss) m (length (given same ss))) (shortRoom (length (given same ss)))) (writtenOf same l (accepted ss)) (writtenOf same l (accepted ss))
+        → Same (pick t (answer 0 (length ss) n (length (given same ss))) (shortRoom (length (given same ss))))
+        (pick t (answer 0 (length ss) m (length (given same ss))) (shortRoom (length (given same ss)))) (writtenOf same l (accepted ss))
+        (writtenOf same l (accepted ss))
     go true = record { number = refl; element = refl; count = refl; octets = refl }
     go false = record { number = refl; element = refl; count = refl; octets = refl }
 alike-answers n m l (refusal r e p d) (accepted ss) a = absurd a
 alike-answers n m l (refusal r e p d) (refusal r′ e′ p′ d′) a =
-    record { number = a .0 ∙ sym (a .1); element = a .2; count = ap (λ (i : ℕ). countOf i d) (a .0) ∙ sym (ap (λ (i : ℕ). countOf i d′) (a .1)); octets = refl }
+    record {
+      number = a .0 ∙ sym (a .1);
+      element = a .2;
+      count = ap (λ (i : ℕ). countOf i d) (a .0) ∙ sym (ap (λ (i : ℕ). countOf i d′) (a .1));
+      octets = refl;
+    }
 
--- If a text converts from one form to a second, converting the result to any third gives the octets of the direct conversion, or the same refusal
--- number at the same element. The result s is the second form's canonical spelling of what the text means (`converted-means`), within the limit.
+-- If a text converts from one form to a second, converting the result to any third gives the octets of the direct conversion, or the same
+-- refusal number at the same element. The result s is the second form's canonical spelling of what the text means (`converted-means`),
+-- within the limit.
 pub composes : (source second third : ℕ) (f g h : Form) → formOf source ≡ Is f → formOf second ≡ Is g → formOf third ≡ Is h
-    → (text s out : List ℕ) (es : List Element) → length text ≤ limit → length s ≤ limit → RunOf (Spells f) text es → RunOf (CanonicalElement g) s es
-    → Same (convertAnswer source third text (length out)) (convertAnswer second third s (length out)) (convertText source third text out) (convertText second third s out)
+    → (text s out : List ℕ) (es : List Element) → length text ≤ limit → length s ≤ limit → RunOf (Spells f) text es
+    → RunOf (CanonicalElement g) s es
+    → Same (convertAnswer source third text (length out)) (convertAnswer second third s (length out)) (convertText source third text out)
+    (convertText second third s out)
 composes source second third f g h is-source is-second is-third text s out es l k r c =
     let a = in-two-forms source third f h is-source is-third text out l in
     let b = in-two-forms second third g h is-second is-third s out k in

@@ -1,6 +1,5 @@
-mod SpeltSizes
 mod Respelling
 mod Places
 mod Converting
-pub mod Readings
+pub mod SixteenReadings
 pub mod Demands

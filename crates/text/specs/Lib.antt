@@ -1,3 +1,3 @@
 pub mod Outcomes
-pub mod Answers
-pub mod Table
+pub mod WriteAnswers
+pub mod WritingNumbers

@@ -11,7 +11,7 @@ use Rattle.element_words.specs.declared.Element.{Element}
 use Rattle.element_reading.specs.Grammar.{Spells}
 use Rattle.element_reading.specs.Reading.{headIn}
 use Rattle.element_spelling.specs.ElementOctets.{CanonicalElement, Held, spellElement, spellHead}
-use Rattle.text_reading.specs.Answers.{readIn}
+use Rattle.text_reading.specs.ReadAnswers.{readIn}
 
 -- words, written in a form: the octets of each element, or the first refusal
 abbrev pub writeIn : Form → List ℕ → Outcome (List ℕ)

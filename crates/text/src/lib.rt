@@ -14,9 +14,9 @@ ghost use lib.ListN.{length};
 ghost use Rattle.run.specs.Answers.{answer, answerOf, writtenOf, roomyAnswer, roomFor, same};
 ghost use Rattle.lent_tables.specs.CodeTables.{codeTable};
 ghost use Rattle.element_reading.specs.Reading.{stepAt};
-ghost use Rattle.text_reading.specs.Answers.{limit};
+ghost use Rattle.text_reading.specs.ReadAnswers.{limit};
 ghost use Rattle.text.specs.Outcomes.{writeIn, respellIn};
-ghost use Rattle.text.specs.Answers.{writeAnswer, writeText, convertAnswer, convertText};
+ghost use Rattle.text.specs.WriteAnswers.{writeAnswer, writeText, convertAnswer, convertText};
 
 // 10, at the words or the element that the form does not hold, after n elements.
 fn not_held(n: usize, at: usize) -> Answer
@@ -102,7 +102,7 @@ fn measure_convert(source: Form, target: Form, codes: &[u16; 256], text: &[u8]) 
     while at < text.len() {
         let step = step_in(source, codes, text, at);
         let Step::Element(e, next) = step else {
-            return text_reading::refusal(step, n);
+            return text_reading::step_answer(step, n);
         };
         let size = element_spelling::spelt_size(target, e);
         if size == 0 {

@@ -16,10 +16,9 @@ use Rattle.run.specs.Answers.{answer, bare, shortRoom, given, answerOf, written
 use Rattle.sorts.specs.declared.Form.{Form}
 use Rattle.sorts.specs.declared.FormFound.{FormFound}
 use Rattle.sorts.specs.declared.FormFound.the-variants.{Is, Nothing}
-use Rattle.sorts.specs.Forms.{formOf, formNumber, inForm}
-use Rattle.sorts.proofs.FormNumbers.{form-number}
-use Rattle.text_reading.specs.Answers.{limit, within-limit}
-use Rattle.text_reading.specs.Table.{Answered, Formed, Tells}
+use Rattle.sorts.specs.Forms.{formOf, inForm}
+use Rattle.text_reading.specs.ReadAnswers.{limit, within-limit}
+use Rattle.text_reading.specs.ReadingNumbers.{Answered, Formed, Tells}
 use Rattle.text_reading.proofs.Edges.{no-form, a-form, over as past, within}
 use Rattle.sorts.specs.Forms.{NoForm}
 use Rattle.sorts.proofs.FormNumbers.{none-exactly}
@@ -29,7 +28,8 @@ pub record Meets {A : Type 0} (Runs : List A → Type 0) (Fault : ℕ → ℕ �
   pub runs : (es : List A) → (x ≡ accepted es) ↔ Runs es
   pub faults : (r n p d : ℕ) → (x ≡ refusal r n p d) ↔ Fault r n p d
 
-module _ {A : Type 0} (gives : A → List ℕ) (Runs : List A → Type 0) (Fault : ℕ → ℕ → ℕ → ℕ → Type 0) (x : Outcome A) (meets : Meets Runs Fault x) (input buffer : List ℕ) where
+module _ {A : Type 0} (gives : A → List ℕ) (Runs : List A → Type 0) (Fault : ℕ → ℕ → ℕ → ℕ → Type 0) (x : Outcome A)
+    (meets : Meets Runs Fault x) (input buffer : List ℕ) where
   abbrev Row : Answer → List ℕ → Type 0
   Row = Answered gives Runs Fault input buffer
 
@@ -79,7 +79,8 @@ module _ {A : Type 0} (gives : A → List ℕ) (Runs : List A → Type 0) (Fault
   pub by-table : (a : Answer) (after : List ℕ) → Is-given a after ↔ Row a after
   by-table a after = (λ e. subst₂ Row (e .0) (e .1) (by-limit (leb (length input) limit) refl), of-row)
 
-module _ (form : ℕ) (buffer : List ℕ) (Inside : Form → Answer → List ℕ → Type 0) (k : Form → Answer) (l : Form → List ℕ) (inside : (f : Form) (a : Answer) (after : List ℕ) → ((k f ≡ a) × (l f ≡ after)) ↔ Inside f a after) where
+module _ (form : ℕ) (buffer : List ℕ) (Inside : Form → Answer → List ℕ → Type 0) (k : Form → Answer) (l : Form → List ℕ)
+    (inside : (f : Form) (a : Answer) (after : List ℕ) → ((k f ≡ a) × (l f ≡ after)) ↔ Inside f a after) where
   -- in a form, what is answered is what the table says inside it
   pub in-its-form : (f : Form) → formOf form ≡ Is f → Inside f (inForm (formOf form) (bare 11) k) (inForm (formOf form) buffer l)
   in-its-form f q = inside f _ _ .0 (a-form _ _ _ _ _ q refl, a-form _ _ _ _ _ q refl)
@@ -118,7 +119,8 @@ module _ (form : ℕ) (buffer : List ℕ) (Inside : Form → Answer → List ℕ
 abbrev pub Numbered : (ℕ → ℕ → ℕ → ℕ → Type 0) → Type 0
 Numbered Fault = (r n p d : ℕ) → Fault r n p d → (0 < r) × (r < 11) × (r ≡ 9 → ⊥)
 
-module _ {A : Type 0} {gives : A → List ℕ} {Runs : List A → Type 0} {Fault : ℕ → ℕ → ℕ → ℕ → Type 0} {input buffer : List ℕ} (numbered : Numbered Fault) where
+module _ {A : Type 0} {gives : A → List ℕ} {Runs : List A → Type 0} {Fault : ℕ → ℕ → ℕ → ℕ → Type 0} {input buffer : List ℕ}
+    (numbered : Numbered Fault) where
   pub tells : {a : Answer} {after : List ℕ} → Answered gives Runs Fault input buffer a after → Tells gives Runs Fault input buffer a after
   tells (Answered.over-limit h) =
       record {

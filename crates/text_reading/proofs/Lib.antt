@@ -1,6 +1,7 @@
 pub mod Edges
 pub mod ByTable
-pub mod Reading
+pub mod ReadTexts
 pub mod Steps
 pub mod RunsAndPairs
 pub mod Lone
+pub mod OneAnswer

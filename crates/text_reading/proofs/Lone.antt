@@ -20,8 +20,8 @@ use Rattle.element_reading.specs.declared.Step.{Step}
 use Rattle.element_reading.specs.declared.Step.the-variants.{Refused}
 use Rattle.element_reading.specs.Reading.{headIn, stepOf, stepAt}
 use Rattle.element_reading.proofs.Reader.{reads, refuses-exactly-by, begins-head}
-use Rattle.text_reading.specs.Answers.{limit, within-limit, loneStep}
-use Rattle.text_reading.specs.Table.{LoneTable}
+use Rattle.text_reading.specs.ReadAnswers.{limit, within-limit, loneStep}
+use Rattle.text_reading.specs.ReadingNumbers.{LoneTable}
 use Rattle.text_reading.proofs.Edges.{no-form, a-form, over, within}
 use Rattle.sorts.proofs.FormNumbers.{none-exactly}
 

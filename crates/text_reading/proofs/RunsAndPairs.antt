@@ -12,7 +12,7 @@ use lib.Seq.{drop-cons}
 use borrow.Author.Tests.{lt-ltb, le-ltb, ltb-true}
 use Rattle.run.specs.Choice.{pick}
 use Rattle.run.specs.Head.{element}
-use Rattle.run.specs.Grammar.{Run as RunOfPieces, done, more}
+use Rattle.run.specs.Grammar.{Run, done, more}
 use Rattle.run.specs.Answers.{given, roomFor}
 use Rattle.run.specs.Put.{Put}
 use Rattle.run.proofs.Answers.{given-length}
@@ -32,25 +32,25 @@ use Rattle.element_reading.specs.Grammar.{Spells}
 use Rattle.element_reading.specs.Reading.{headSort, headIn, pairHead, followerHead}
 use Rattle.element_reading.proofs.Reader.{reads}
 use Rattle.text_reading.specs.RunsAndPairs.{spacingWords, pairWord}
-use Rattle.text_reading.specs.Answers.{readIn}
-use Rattle.text_reading.proofs.Reading.{few-words}
+use Rattle.text_reading.specs.ReadAnswers.{readIn}
+use Rattle.text_reading.proofs.ReadTexts.{few-words}
 
 -- ---- counting and writing a run: what the loops know at the i-th octet
 
 module _ (codes text : List ℕ) (at most : ℕ) where
-  pub record Run (i : ℕ) : Type 0 where
+  pub record RunSoFar (i : ℕ) : Type 0 where
     pub front : List ℕ
     pub size : length front ≡ i
     pub inside : i ≤ most
     pub whole : spacingWords codes most (drop at text) ≡ front ++ spacingWords codes (most - i) (drop (at + i) text)
 
-  pub run-start : Run 0
+  pub run-start : RunSoFar 0
   run-start =
       let m : most ≡ most - 0 = omega arith in
       let a : at ≡ at + 0 = omega arith in
       record { front = []; size = refl; inside = omega arith; whole = ap₂ (λ (k n : ℕ). spacingWords codes k (drop n text)) m a }
 
-  module _ (i : ℕ) (was : Run i) where
+  module _ (i : ℕ) (was : RunSoFar i) where
     -- the end
     pub run-end : most ≤ i → spacingWords codes most (drop at text) ≡ was .front
     run-end h =
@@ -72,7 +72,7 @@ module _ (codes text : List ℕ) (at most : ℕ) where
       run-stop q = was .whole ∙ ap (λ (s : List ℕ). was .front ++ s) (here ∙ simp (le-ltb w noCharacter q)) ∙ append-nil (was .front)
 
       -- one that is
-      pub run-more : w < noCharacter → Run (i + 1)
+      pub run-more : w < noCharacter → RunSoFar (i + 1)
       run-more q =
           record {
             front = was .front ++ (w ∷ []);
@@ -112,7 +112,7 @@ rest-left codes text at k h =
 
 module _ (codes text : List ℕ) (at most : ℕ) (l₀ : List ℕ) (o : ℕ) where
   pub record Stored (i : ℕ) (l : List ℕ) : Type 0 where
-    pub run : Run codes text at most i
+    pub run : RunSoFar codes text at most i
     pub put : Put l₀ o (run .front) l (o + i)
 
   pub stored-start : Stored 0 l₀
@@ -190,7 +190,7 @@ module _ (f : Form) where
     pub pieces : List (List ℕ)
     pub whole : s ≡ front ++ rest
     pub size : length front ≡ length ws
-    pub run : RunOfPieces (Spells f) front pieces (map One ws)
+    pub run : Run (Spells f) front pieces (map One ws)
 
   none-spaced : (s : List ℕ) → Spaced s []
   none-spaced s = record { front = []; rest = s; pieces = []; whole = refl; size = refl; run = done }
@@ -259,7 +259,8 @@ module _ (f : Form) (text codes : List ℕ) (squares : List (List ℕ)) (tables 
   behind-pair {at} x was e z = count-turn (reads f) (few-words f) text was (pair-of at x e z) refl refl
 
   -- filling
-  module _ (l₀ : List ℕ) (room : roomFor wordsOf (length l₀) (readIn f text)) {at o : ℕ} {l : List ℕ} (was : Filled (headIn f) wordsOf 34 text l₀ at o l) where
+  module _ (l₀ : List ℕ) (room : roomFor wordsOf (length l₀) (readIn f text)) {at o : ℕ} {l : List ℕ}
+      (was : Filled (headIn f) wordsOf 34 text l₀ at o l) where
     pub room-for-run : o + length (run at) ≤ length l
     room-for-run =
         let r = run-there at in

@@ -22,8 +22,8 @@ use Rattle.element_words.specs.Words.{wordsOf}
 use Rattle.element_reading.specs.Reading.{headIn, stepOf, stepAt}
 use Rattle.element_reading.proofs.Reader.{reads, refuses-exactly-by}
 use Rattle.element_reading.proofs.Places.{reading-number}
-use Rattle.text_reading.specs.Answers.{readIn, refusedAs}
-use Rattle.text_reading.proofs.Reading.{few-words}
+use Rattle.text_reading.specs.ReadAnswers.{readIn, stepAnswerAfter}
+use Rattle.text_reading.proofs.ReadTexts.{few-words}
 
 -- ---- a step that is an element
 
@@ -51,7 +51,7 @@ pub record RefusedStep (f : Form) (text : List ℕ) (at : ℕ) (x : Step) : Type
   pub number : ℕ
   pub behind : ℕ
   pub here : headIn f (drop at text) ≡ refused number behind
-  pub answers : (n : ℕ) → _≡_ {A = Answer} (refusedAs n x) (answer number n at (countOf number (at + behind)))
+  pub answers : (n : ℕ) → _≡_ {A = Answer} (stepAnswerAfter n x) (answer number n at (countOf number (at + behind)))
 
 module _ (f : Form) (text : List ℕ) (at : ℕ) where
   not-read : (x : Step) → OneOf (1 ∷ 2 ∷ []) (tagOf the-type x) → (e : Element) (k : ℕ) → x ≡ Read e k → ⊥
@@ -80,7 +80,7 @@ module _ (f : Form) (text : List ℕ) (at : ℕ) where
 
 module _ (f : Form) (text : List ℕ) where
   pub read-stop : {at n count : ℕ} (x : Step) → Counted (headIn f) wordsOf 34 text at n count → x ≡ stepAt f text at
-      → OneOf (1 ∷ 2 ∷ []) (tagOf the-type x) → at < length text → refusedAs n x ≡ roomyAnswer wordsOf (length text) (readIn f text)
+      → OneOf (1 ∷ 2 ∷ []) (tagOf the-type x) → at < length text → stepAnswerAfter n x ≡ roomyAnswer wordsOf (length text) (readIn f text)
   read-stop {at} {n} x was q o l =
       let h = step-refused f text at x q o l in h .answers n ∙ count-stop (reads f) (few-words f) text was (h .here) refl
 

@@ -1,3 +1,3 @@
-pub mod Answers
-pub mod Table
+pub mod ReadAnswers
+pub mod ReadingNumbers
 pub mod RunsAndPairs

@@ -12,10 +12,11 @@ ghost use Rattle.squares.specs.Squares.{squareTable};
 ghost use Rattle.lent_tables.specs.CodeTables.{codeTable};
 ghost use Rattle.element_words.specs.Words.{wordsOf};
 ghost use Rattle.text_reading.specs.RunsAndPairs.{spacingWords, pairWord};
-ghost use Rattle.text_reading.specs.Answers.{readIn, limit, refusedAs, readAnswer, readWords, loneStep};
+ghost use Rattle.text_reading.specs.ReadAnswers.{readIn, limit, stepAnswerAfter, readAnswer, readWords, loneStep};
 
-pub fn refusal(step: Step, n: usize) -> Answer
-    ensures { λ r. ⌜ r ≡ refusedAs n step ⌝ }
+// 01: "the text reader puts its own count there": a step's answer, after n elements.
+pub fn step_answer(step: Step, n: usize) -> Answer
+    ensures { λ r. ⌜ r ≡ stepAnswerAfter n step ⌝ }
 {
     match step {
         Step::Element(e, next) => Answer {
@@ -43,6 +44,7 @@ pub fn refusal(step: Step, n: usize) -> Answer
     }
 }
 
+// How many octets from `at` on, at most `most`, stand before the first that is no spacing character by itself.
 fn run_within(codes: &[u16; 256], text: &[u8], at: usize, most: usize) -> usize
     requires { ⌜ at + most ≤ length (now text) ⌝ }
     ensures { λ r. ⌜ r ≡ length (spacingWords (now (codes .entry)) most (drop at (now (text .entry)))) ⌝ }
@@ -57,6 +59,7 @@ fn run_within(codes: &[u16; 256], text: &[u8], at: usize, most: usize) -> usize
     i
 }
 
+// The same of sixteen octets, or of what is left of the text: a loop of known length, so that the compiler unrolls it.
 fn spacing_run(codes: &[u16; 256], text: &[u8], at: usize) -> usize
     requires { ⌜ at ≤ length (now text) ⌝ }
     ensures { λ r. ⌜ r ≡ length (spacingWords (now (codes .entry)) 16 (drop at (now (text .entry)))) ⌝ }
@@ -68,6 +71,7 @@ fn spacing_run(codes: &[u16; 256], text: &[u8], at: usize) -> usize
     run_within(codes, text, at, 16)
 }
 
+// Writes what `run_within` counts: each octet's character, from `o` on.
 fn put_within(
     codes: &[u16; 256],
     text: &[u8],
@@ -92,6 +96,7 @@ fn put_within(
     i
 }
 
+// Writes what `spacing_run` counts.
 fn put_run(codes: &[u16; 256], text: &[u8], at: usize, words: &mut [u32], o: usize) -> usize
     requires { ⌜ at ≤ length (now text) ⌝ }
     requires { ⌜ o + length (spacingWords (now codes) 16 (drop at (now text))) ≤ length (now words) ⌝ }
@@ -104,6 +109,7 @@ fn put_run(codes: &[u16; 256], text: &[u8], at: usize, words: &mut [u32], o: usi
     put_within(codes, text, at, words, o, 16)
 }
 
+// The character of the pair at a place, a mark and its listed follower: 0 where there is none.
 fn pair_at(codes: &[u16; 256], squares: &[[u16; 53]; 13], text: &[u8], at: usize) -> u32
     requires { ⌜ at ≤ length (now text) ⌝ }
     ensures { λ r. ⌜ r ≡ pairWord (now (codes .entry)) (now (squares .entry)) (drop at (now (text .entry))) ⌝ }
@@ -114,6 +120,8 @@ fn pair_at(codes: &[u16; 256], squares: &[[u16; 53]; 13], text: &[u8], at: usize
     lent_tables::paired_in(squares, lent_tables::code_in(codes, text[at]), text[at + 1])
 }
 
+// The first pass of reading: the answer as with room enough. Spacing characters go by the run and pairs by the lent tables; what is neither
+// is read as an element.
 fn measure_read(form: Form, codes: &[u16; 256], squares: &[[u16; 53]; 13], text: &[u8]) -> Answer
     requires { ⌜ (now codes ≡ codeTable form) × (now squares ≡ squareTable) ⌝ }
     requires { ⌜ length (now text) ≤ limit ⌝ }
@@ -137,7 +145,7 @@ fn measure_read(form: Form, codes: &[u16; 256], squares: &[[u16; 53]; 13], text:
                 } else {
                     let step = element_reading::element_at(form, text, at);
                     let Step::Element(e, next) = step else {
-                        return refusal(step, n);
+                        return step_answer(step, n);
                     };
                     at = next;
                     n += 1;
@@ -154,6 +162,7 @@ fn measure_read(form: Form, codes: &[u16; 256], squares: &[[u16; 53]; 13], text:
     }
 }
 
+// Measures a text that is within the limit, by the tables of its form.
 fn measure_in(form: Form, text: &[u8]) -> Answer
     requires { ⌜ length (now text) ≤ limit ⌝ }
     ensures { λ r. ⌜ r ≡ roomyAnswer wordsOf (length (now (text .entry))) (readIn form (now (text .entry))) ⌝ }
@@ -163,6 +172,7 @@ fn measure_in(form: Form, text: &[u8]) -> Answer
     measure_read(form, &codes, &squares, text)
 }
 
+// The second pass of reading, where the text is accepted and there is room.
 fn fill_read(
     form: Form,
     codes: &[u16; 256],
@@ -200,6 +210,7 @@ fn fill_read(
     }
 }
 
+// Reads a text that is within the limit: measured first, and then filled in.
 fn read_in(form: Form, text: &[u8], words: &mut [u32]) -> Answer
     requires { ⌜ length (now text) ≤ limit ⌝ }
     ensures { λ r. ⌜ (r ≡ answerOf wordsOf (length (now (text .entry))) (length (now (words .entry))) (readIn form (now (text .entry)))) × (now (words .exit) ≡ writtenOf wordsOf (now (words .entry)) (readIn form (now (text .entry)))) ⌝ }

@@ -13,7 +13,7 @@ use borrow.Author.Tests.{le-leb, lt-leb, lt-ltb, le-ltb, leb-true, leb-false}
 use Rattle.run.specs.Choice.{pick}
 use Rattle.run.specs.Head.{Outcome, accepted, refusal}
 use Rattle.run.specs.Grammar.{RunOf}
-use Rattle.run.specs.Answers.{answer, bare, shortRoom, given, writtenOf, over}
+use Rattle.run.specs.Answers.{answer, bare, shortRoom, given, writtenOf, over, same}
 use Rattle.run.proofs.Answers as answers
 use Rattle.sorts.specs.declared.Form.{Form}
 use Rattle.sorts.specs.declared.FormFound.the-variants.{Is}
@@ -22,8 +22,8 @@ use Rattle.element_words.specs.declared.Element.{Element}
 use Rattle.element_words.specs.Words.{wordsOf}
 use Rattle.element_reading.specs.Grammar.{Spells}
 use Rattle.element_reading.proofs.Places.{reading-number}
-use Rattle.text_reading.specs.Answers.{readIn, readAnswer}
-use Rattle.text_reading.proofs.Reading as text
+use Rattle.text_reading.specs.ReadAnswers.{readIn, readAnswer}
+use Rattle.text_reading.proofs.ReadTexts as text
 use Rattle.case_table.specs.declared.Header.{Header}
 use Rattle.case_table.specs.declared.Header.the-variants.{Refused, Pages}
 use Rattle.case_table.specs.Layout.{Layout, header, big16, ofForm}
@@ -33,8 +33,10 @@ use Rattle.case_table.proofs.Checked.{turned-exactly}
 use Rattle.case_table.proofs.Laid.{laid-exactly, case-header, case-pages}
 use Rattle.tlx.specs.declared.CaseAnswer.{CaseAnswer}
 use Rattle.tlx.specs.declared.Page.the-variants.{Is as IsPage, NoPage}
-use Rattle.tlx.specs.Table.{AllSpelt, none, more, Faulty, AcceptedCase, RefusedCase, of-case, of-page, CaseTable, CaseTells}
-use Rattle.tlx.specs.Reading.{CaseOutcome, all, fault, joinPages, afterPage, readPage, readPages, readCase, beside, readCaseAnswer, readCaseWords, aloneAnswer, pageAnswer, outcomeOf, caseAnswer}
+use Rattle.tlx.specs.CaseReadingNumbers.{AllSpelt, none, more, Faulty, AcceptedCase, RefusedCase, of-case, of-page, CaseTable}
+use Rattle.tlx.specs.CaseReadingNumbers.{CaseTells}
+use Rattle.tlx.specs.CaseReading.{CaseOutcome, all, fault, joinPages, afterPage, readPage, readPages, readCase, beside}
+use Rattle.tlx.specs.CaseReading.{readCaseAnswer, readCaseWords, aloneAnswer, pageAnswer, outcomeOf, caseAnswer}
 use Rattle.tlx.proofs.Pages.{join-none, join-join, page-read}
 use Rattle.tlx.proofs.Rooms.{case-turned}
 use Rattle.sorts.proofs.FormNumbers.{is-found}
@@ -46,13 +48,17 @@ module _ (form : ℕ) (f : Form) (is-form : formOf form ≡ Is f) where
   -- ---- pages, one after another
 
   -- After accepted pages the others are read as by themselves: elements joined, or the page's number moved up.
-  pub joined : {pages : List (List ℕ)} {es : List Element} → AllSpelt f pages es → (others : List (List ℕ)) → readPages (ofForm form (pages ++ others)) ≡ joinPages es (length pages) (readPages (ofForm form others))
+  pub joined : {pages : List (List ℕ)} {es : List Element} → AllSpelt f pages es → (others : List (List ℕ))
+      → readPages (ofForm form (pages ++ others)) ≡ joinPages es (length pages) (readPages (ofForm form others))
   unfolding readPages
   joined none others = sym (join-none (readPages (ofForm form others)))
   joined (more {page} {pages} {es} {fs} r s) others =
       ap₂ afterPage (accepts page es r) (joined s others)
       ∙ join-join es fs 1 (length pages) (readPages (ofForm form others))
-      ∙ ap (λ (k : ℕ). joinPages (es ++ fs) k (readPages (ofForm form others))) (let e : 1 + length pages ≡ suc (length pages) = omega arith in e)
+      ∙ ap (λ (k : ℕ). joinPages (es ++ fs) k (readPages (ofForm form others))) one
+    where
+      one : 1 + length pages ≡ suc (length pages)
+      one = omega arith
 
   pub spelt-accepted : {pages : List (List ℕ)} {es : List Element} → AllSpelt f pages es → readPages (ofForm form pages) ≡ all es
   unfolding readPages
@@ -64,7 +70,8 @@ module _ (form : ℕ) (f : Form) (is-form : formOf form ≡ Is f) where
     well : {pages : List (List ℕ)} {es : List Element} → AllSpelt f pages es → Went pages (all es)
     ill : {pages : List (List ℕ)} {g r n p d : ℕ} → Faulty f pages g r n p d → Went pages (fault g r n p d)
 
-  went-more : (page : List ℕ) (pages : List (List ℕ)) (es : List Element) → RunOf (Spells f) page es → {x : CaseOutcome} → Went pages x → Went (page ∷ pages) (joinPages es 1 x)
+  went-more : (page : List ℕ) (pages : List (List ℕ)) (es : List Element) → RunOf (Spells f) page es → {x : CaseOutcome} → Went pages x
+      → Went (page ∷ pages) (joinPages es 1 x)
   went-more page pages es r (well s) = well (more r s)
   went-more page pages es r (ill {g = g} {r = k} {n = n} {p = p} {d = d} i) =
       ill {g = 1 + g}
@@ -79,7 +86,8 @@ module _ (form : ℕ) (f : Form) (is-form : formOf form ≡ Is f) where
         named = omega (arith, i .named);
       })
 
-  went-by : (page : List ℕ) (pages : List (List ℕ)) → Went pages (readPages (ofForm form pages)) → (x : Outcome Element) → readIn f page ≡ x → Went (page ∷ pages) (afterPage x (readPages (ofForm form pages)))
+  went-by : (page : List ℕ) (pages : List (List ℕ)) → Went pages (readPages (ofForm form pages)) → (x : Outcome Element) → readIn f page ≡ x
+      → Went (page ∷ pages) (afterPage x (readPages (ofForm form pages)))
   went-by page pages w (accepted es) q = went-more page pages es (text.accepted-exactly f page es .0 q) w
   went-by page pages w (refusal r n p d) q =
       ill {g = 0}
@@ -98,7 +106,8 @@ module _ (form : ℕ) (f : Form) (is-form : formOf form ≡ Is f) where
   unfolding readPages
   went [] = well none
   went (page ∷ pages) =
-      subst (λ (x : Outcome Element). Went (page ∷ pages) (afterPage x (readPages (ofForm form pages)))) (sym (page-read form is-form page)) (went-by page pages (went pages) (readIn f page) refl)
+      subst (λ (x : Outcome Element). Went (page ∷ pages) (afterPage x (readPages (ofForm form pages)))) (sym (page-read form is-form page))
+      (went-by page pages (went pages) (readIn f page) refl)
 
   went-well : {pages : List (List ℕ)} {x : CaseOutcome} → Went pages x → (es : List Element) → x ≡ all es → AllSpelt f pages es
   went-well {pages} (well {es = es₀} s) es q = let e : es₀ ≡ es = cc in subst (AllSpelt f pages) e s
@@ -123,7 +132,8 @@ module _ (form : ℕ) (f : Form) (is-form : formOf form ≡ Is f) where
   faulty-fault {pages} {g} {r} {n} {p} {d} i =
       ap (λ (l : List (List ℕ)). readPages (ofForm form l)) (i .whole)
       ∙ joined (i .spelt) (i .page ∷ i .behind)
-      ∙ ap (λ (x : Outcome Element). joinPages (i .elements) (length (i .before)) (afterPage x (readPages (ofForm form (i .behind))))) (page-read form is-form (i .page) ∙ text.read-meets f (i .page) .faults r n p d .1 (i .refused))
+      ∙ ap (λ (x : Outcome Element). joinPages (i .elements) (length (i .before)) (afterPage x (readPages (ofForm form (i .behind)))))
+      (page-read form is-form (i .page) ∙ text.read-meets f (i .page) .faults r n p d .1 (i .refused))
       ∙ ap (λ (k : ℕ). fault k r n p d) (add-zero (length (i .before)) ∙ sym (i .named))
 
   -- They are refused exactly when one of them is, which is named, and the pages before it are accepted.
@@ -133,18 +143,21 @@ module _ (form : ℕ) (f : Form) (is-form : formOf form ≡ Is f) where
 -- ---- a whole case
 
 -- "Every page is read by itself": the case of pages comes to what its pages come to, each read from its octets alone
-pub read-laid : (case : List ℕ) (form : ℕ) (f : Form) (pages : List (List ℕ)) → formOf form ≡ Is f → CaseOf case form pages → readCase case ≡ readPages (ofForm form pages)
+pub read-laid : (case : List ℕ) (form : ℕ) (f : Form) (pages : List (List ℕ)) → formOf form ≡ Is f → CaseOf case form pages
+    → readCase case ≡ readPages (ofForm form pages)
 unfolding readCase
 read-laid case form f pages q c = simp (case-header case form pages c) (ap readPages (case-pages case form pages c))
 
 -- the case of pages that are runs of elements is accepted
 accepted-read : {case : List ℕ} {es : List Element} → AcceptedCase case es → readCase case ≡ all es
 accepted-read {case} {es} a =
-    read-laid case (a .form) (a .the-form) (a .pages) (a .is-form) (a .laid) ∙ pages-accepted (a .form) (a .the-form) (a .is-form) (a .pages) es .1 (a .spelt)
+    read-laid case (a .form) (a .the-form) (a .pages) (a .is-form) (a .laid)
+    ∙ pages-accepted (a .form) (a .the-form) (a .is-form) (a .pages) es .1 (a .spelt)
 
 refused-read : {case : List ℕ} {g r n p d : ℕ} → RefusedCase case g r n p d → readCase case ≡ fault g r n p d
 refused-read {case} (of-case {r} t) = case-turned case r (turned-exactly case r .1 t)
-refused-read {case} (of-page {form} {f} {pages} {g} {r} {n} {p} {d} q c i) = read-laid case form f pages q c ∙ pages-refused form f q pages g r n p d .1 i
+refused-read {case} (of-page {form} {f} {pages} {g} {r} {n} {p} {d} q c i) =
+    read-laid case form f pages q c ∙ pages-refused form f q pages g r n p d .1 i
 
 module _ (case : List ℕ) (octets : Octets case) where
   accepted-by : (es : List Element) → readCase case ≡ all es → (h : Header) → headerOf case ≡ h → AcceptedCase case es
@@ -180,10 +193,11 @@ module _ (case : List ℕ) (octets : Octets case) where
   refused-by g r n p d q (Pages form k) e =
       let l = laid-exactly case octets form k .0 e in
       let f = is-found form (l .2 .is-form) in
-      of-page (f .1) (l .2) (pages-refused form (f .0) (f .1) (l .0) g r n p d .0 (sym (read-laid case form (f .0) (l .0) (f .1) (l .2)) ∙ q))
+      let t = sym (read-laid case form (f .0) (l .0) (f .1) (l .2)) ∙ q in
+      of-page (f .1) (l .2) (pages-refused form (f .0) (f .1) (l .0) g r n p d .0 t)
 
-  -- A case is refused exactly by 01's table: 13, 14, 11, 15 by itself, with page 0 and no place; else at the first page that is refused, which
-  -- is named, element and places counted from that page's start.
+  -- A case is refused exactly by 01's table: 13, 14, 11, 15 by itself, with page 0 and no place; else at the first page that is refused,
+  -- which is named, element and places counted from that page's start.
   pub case-refused : (g r n p d : ℕ) → (readCase case ≡ fault g r n p d) ↔ RefusedCase case g r n p d
   case-refused g r n p d = (λ q. refused-by g r n p d q (headerOf case) refl, refused-read)
 
@@ -191,7 +205,8 @@ module _ (case : List ℕ) (octets : Octets case) where
 
 module _ {case words : List ℕ} where
   -- each row of the table is answered so
-  pub of-row : {a : CaseAnswer} {after : List ℕ} → CaseTable case words a after → (readCaseAnswer case (length words) ≡ a) × (readCaseWords case words ≡ after)
+  pub of-row : {a : CaseAnswer} {after : List ℕ} → CaseTable case words a after
+      → (readCaseAnswer case (length words) ≡ a) × (readCaseWords case words ≡ after)
   unfolding readCaseAnswer readCaseWords
   of-row (CaseTable.refused i) = let q = refused-read i in (simp q, simp q)
   of-row (CaseTable.short-room {es} a h) =
@@ -200,17 +215,24 @@ module _ {case words : List ℕ} where
       let q = accepted-read a in let t = le-leb (length (given wordsOf es)) (length words) h in (simp (q, t), simp (q, t))
 
 module _ (case : List ℕ) (octets : Octets case) (words : List ℕ) where
-  by-room : (es : List Element) → AcceptedCase case es → (t : Bool) → leb (length (given wordsOf es)) (length words) ≡ t
-      → CaseTable case words (beside 0 (pick t (answer 0 (length es) (length case) (length (given wordsOf es))) (shortRoom (length (given wordsOf es))))) (pick t (over words (given wordsOf es)) words)
+  abbrev size : List Element → ℕ
+  size es = length (given wordsOf es)
+
+  by-room : (es : List Element) → AcceptedCase case es → (t : Bool) → leb (size es) (length words) ≡ t
+      → CaseTable case words (beside 0 (pick t (answer 0 (length es) (length case) (size es)) (shortRoom (size es))))
+      (pick t (over words (given wordsOf es)) words)
   by-room es a true e = CaseTable.accepted a (leb-true _ _ e)
   by-room es a false e = CaseTable.short-room a (leb-false _ _ e)
 
-  by-outcome : (x : CaseOutcome) → readCase case ≡ x → CaseTable case words (caseAnswer (length case) (length words) x) (writtenOf wordsOf words (outcomeOf x))
-  by-outcome (all es) q = by-room es (case-accepted case octets es .0 q) (leb (length (given wordsOf es)) (length words)) refl
+  by-outcome : (x : CaseOutcome) → readCase case ≡ x
+      → CaseTable case words (caseAnswer (length case) (length words) x) (writtenOf wordsOf words (outcomeOf x))
+  by-outcome (all es) q = by-room es (case-accepted case octets es .0 q) (leb (size es) (length words)) refl
   by-outcome (fault g r n p d) q = CaseTable.refused (case-refused case octets g r n p d .0 q)
 
-  -- Each of 11, 13, 14, 15, 9 and a page's refusal is given exactly when 01's table and order say so, with its page; and so is an acceptance.
-  pub read-case-exactly : (a : CaseAnswer) (after : List ℕ) → ((readCaseAnswer case (length words) ≡ a) × (readCaseWords case words ≡ after)) ↔ CaseTable case words a after
+  -- Each of 11, 13, 14, 15, 9 and a page's refusal is given exactly when 01's table and order say so, with its page; and so is an
+  -- acceptance.
+  pub read-case-exactly : (a : CaseAnswer) (after : List ℕ)
+      → ((readCaseAnswer case (length words) ≡ a) × (readCaseWords case words ≡ after)) ↔ CaseTable case words a after
   unfolding readCaseAnswer readCaseWords
   read-case-exactly a after = (λ e. subst₂ (CaseTable case words) (e .0) (e .1) (by-outcome (readCase case) refl), of-row)
 
@@ -261,7 +283,8 @@ row-tells (CaseTable.accepted {es} a h) =
       kept = λ x. absurd (x refl);
     }
 
-pub read-case-tells : (case : List ℕ) → Octets case → (words : List ℕ) → CaseTells case words (readCaseAnswer case (length words)) (readCaseWords case words)
+pub read-case-tells : (case : List ℕ) → Octets case → (words : List ℕ)
+    → CaseTells case words (readCaseAnswer case (length words)) (readCaseWords case words)
 read-case-tells case octets words = row-tells (read-case-exactly case octets words _ _ .0 (refl, refl))
 
 -- ---- of any case: what is not written
@@ -277,7 +300,8 @@ unfolding readCaseWords
 words-length case words = answers.written-length wordsOf (length case) words (outcomeOf (readCase case))
 
 -- "Entries past the count stay."
-pub past-count : (case words : List ℕ) (k d : ℕ) → readCaseAnswer case (length words) .answer .count ≤ k → getD (readCaseWords case words) k d ≡ getD words k d
+pub past-count : (case words : List ℕ) (k d : ℕ) → readCaseAnswer case (length words) .answer .count ≤ k
+    → getD (readCaseWords case words) k d ≡ getD words k d
 unfolding readCaseAnswer readCaseWords
 past-count case words k d h = answers.past-count wordsOf (length case) words (outcomeOf (readCase case)) k d h
 
@@ -288,7 +312,8 @@ abbrev pub pageWords : Outcome Element → List ℕ
 pageWords (accepted es) = given wordsOf es
 pageWords (refusal r n p d) = []
 
-pub words-joined : (f : Form) {pages : List (List ℕ)} {es : List Element} → AllSpelt f pages es → given wordsOf es ≡ given (λ (page : List ℕ). pageWords (readIn f page)) pages
+pub words-joined : (f : Form) {pages : List (List ℕ)} {es : List Element} → AllSpelt f pages es
+    → given wordsOf es ≡ given (λ (page : List ℕ). pageWords (readIn f page)) pages
 unfolding given
 words-joined f none = refl
 words-joined f (more {page} {pages} {es} {fs} r s) =
@@ -297,14 +322,16 @@ words-joined f (more {page} {pages} {es} {fs} r s) =
 -- ---- one page
 
 -- Each page's answer is that of its octets, read as a text with room enough.
-pub page-answers : (case : List ℕ) (form : ℕ) (pages : List (List ℕ)) → CaseOf case form pages → (k : ℕ) → k < length pages → pageAnswer case k ≡ IsPage (readAnswer form (getD pages k []) (length (getD pages k [])))
+pub page-answers : (case : List ℕ) (form : ℕ) (pages : List (List ℕ)) → CaseOf case form pages → (k : ℕ) → k < length pages
+    → pageAnswer case k ≡ IsPage (readAnswer form (getD pages k []) (length (getD pages k [])))
 unfolding pageAnswer
 page-answers case form pages c k h =
     simp (case-header case form pages c, lt-ltb k (length pages) h)
     (ap (λ (l : List (ℕ × List ℕ)). IsPage (aloneAnswer (getD l k (form, [])))) (case-pages case form pages c)
     ∙ ap (λ (page : ℕ × List ℕ). IsPage (aloneAnswer page)) (List·getD-map (λ (page : List ℕ). (form, page)) pages k []))
 
-pub no-page-answers : (case : List ℕ) (form : ℕ) (pages : List (List ℕ)) → CaseOf case form pages → (k : ℕ) → length pages ≤ k → pageAnswer case k ≡ NoPage
+pub no-page-answers : (case : List ℕ) (form : ℕ) (pages : List (List ℕ)) → CaseOf case form pages → (k : ℕ) → length pages ≤ k
+    → pageAnswer case k ≡ NoPage
 unfolding pageAnswer
 no-page-answers case form pages c k h = simp (case-header case form pages c, le-ltb k (length pages) h)
 
@@ -314,15 +341,19 @@ turned-page-answers case r k t = simp (turned-exactly case r .1 t)
 
 -- ---- room for as many words as the case has octets is never short
 
-words-fit : {f : Form} {pages : List (List ℕ)} {es : List Element} → AllSpelt f pages es → length (given wordsOf es) ≤ length (given (λ (page : List ℕ). page) pages)
+words-fit : {f : Form} {pages : List (List ℕ)} {es : List Element} → AllSpelt f pages es
+    → length (given wordsOf es) ≤ length (given same pages)
 unfolding given
 words-fit none = omega arith
 words-fit (more {page} {pages} {es} {fs} r s) =
-    omega (arith, words-fit s, text.words-fit (r .1), ap length (answers.given-append wordsOf es fs), length-append (given wordsOf es) (given wordsOf fs), length-append page (given (λ (page : List ℕ). page) pages))
+    omega (arith, words-fit s, text.words-fit (r .1), answers.given-length wordsOf es fs, length-append page (given same pages))
 
-pub room-enough : (case : List ℕ) → Octets case → (words : List ℕ) → length case ≤ length words → readCaseAnswer case (length words) .answer .number ≡ 9 → ⊥
+pub room-enough : (case : List ℕ) → Octets case → (words : List ℕ) → length case ≤ length words
+    → readCaseAnswer case (length words) .answer .number ≡ 9 → ⊥
 room-enough case octets words h e =
     let t = read-case-tells case octets words .is-9 e in
     let a = t .1 in
-    let l = ap length (a .laid .is) ∙ length-append (header 1 (a .form) (length (a .pages))) (given (λ (page : List ℕ). big16 (length page)) (a .pages) ++ given (λ (page : List ℕ). page) (a .pages)) in
-    omega (arith, t .2, words-fit (a .spelt), l, length-append (given (λ (page : List ℕ). big16 (length page)) (a .pages)) (given (λ (page : List ℕ). page) (a .pages)))
+    let table = given (λ (page : List ℕ). big16 (length page)) (a .pages) in
+    let octets = given same (a .pages) in
+    let l = ap length (a .laid .is) ∙ length-append (header 1 (a .form) (length (a .pages))) (table ++ octets) in
+    omega (arith, t .2, words-fit (a .spelt), l, length-append table octets)

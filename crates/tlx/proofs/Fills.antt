@@ -1,52 +1,33 @@
 -- What the second pass of reading knows at a page: the words of the pages before it stand over the buffer's first entries.
 -- Assumes nothing.
 use Prim.Native.Nat.{ℕ, _+_, _*_, _-_, _≤_, _<_}
-use mathlib.Core.Path.{_≡_, refl, sym, ap, ap₂, subst, _∙_}
-use mathlib.Core.List.{List, [], _++_, append-assoc, append-nil}
+use mathlib.Core.Path.{_≡_, refl, sym, ap, subst, _∙_}
+use mathlib.Core.List.{List, [], _++_}
 use native.Mathlib.Omega.{arith}
-use lib.ListN.{length, take, drop, length-drop, drop-of-length-le}
-use lib.Seq.{sets-eq, drop-drop, take-all}
+use lib.ListN.{length, drop}
 use borrow.Author.Tests.{le-leb}
 use borrow.Rule.Slice.PartMut.{putMid}
 use Rattle.run.specs.Head.{Outcome, accepted, refusal}
 use Rattle.run.specs.declared.Answer.{Answer}
 use Rattle.run.specs.Answers.{given, over, answerOf, writtenOf, roomFor}
 use Rattle.run.specs.Put.{Put}
-use Rattle.run.proofs.Answers.{given-append, given-length}
-use Rattle.run.proofs.Puts.{put-none, put-both, put-length, put-as, put-over}
+use Rattle.run.proofs.Answers.{given-length, given-front}
+use Rattle.run.proofs.Puts.{put-none, put-length, put-given, put-given-all, behind, behind-length, behind-put}
 use Rattle.sorts.specs.declared.Form.{Form}
 use Rattle.element_words.specs.declared.Element.{Element}
 use Rattle.element_words.specs.Words.{wordsOf}
-use Rattle.text_reading.specs.Answers.{readIn, readAnswer, readWords}
+use Rattle.text_reading.specs.ReadAnswers.{readIn, readAnswer, readWords}
 use Rattle.case_table.specs.declared.Header.the-variants.{Pages}
 use Rattle.case_table.specs.Layout.{number16}
 use Rattle.case_table.specs.Check.{headerOf, pagesOf}
-use Rattle.case_table.proofs.Standing.{part}
-use Rattle.tlx.specs.Reading.{CaseOutcome, all, fault, joinPages, readPages, readCase, outcomeOf, readCaseWords}
+use Rattle.case_table.proofs.PagePlaces.{part}
+use Rattle.tlx.specs.CaseReading.{CaseOutcome, all, fault, joinPages, readPages, readCase, outcomeOf, readCaseWords}
 use Rattle.tlx.proofs.Pages.{Read, read-start, read-turn, read-stop, read-all, read-length, read-small}
 
--- the buffer's entries from a place on
-abbrev pub behind : List ℕ → ℕ → List ℕ
-behind l o = take (length l - o) (drop o l)
-
--- entries that a callee put over the first of those, put back
-behind-put : (l : List ℕ) (o : ℕ) (l′ ws : List ℕ) → o + length ws ≤ length l → l′ ≡ over (behind l o) ws → Put l o ws (putMid o (length l - o) l l′) (o + length ws)
-behind-put l o l′ ws h e =
-    let n : length (drop o l) ≡ length l - o = length-drop o l in
-    let w : behind l o ≡ drop o l = take-all (length l - o) (drop o l) (omega arith) in
-    let z : drop (length l - o) (drop o l) ≡ [] = drop-of-length-le (drop o l) {i = length l - o} (omega arith) in
-    record {
-      place = refl;
-      holds =
-          ap₂ (λ (a b : List ℕ). take o l ++ (a ++ b)) (e ∙ ap (λ (k : List ℕ). over k ws) w) z
-          ∙ ap (λ (k : List ℕ). take o l ++ k) (append-nil _ ∙ ap (λ (k : List ℕ). ws ++ k) (drop-drop (length ws) o l))
-          ∙ sym (append-assoc (take o l) ws (drop (o + length ws) l))
-          ∙ sym (sets-eq ws l o h);
-    }
-
 -- pages with room for all of their words have room for those of the first
-room-front : (es : List Element) (k r : ℕ) (x : CaseOutcome) → roomFor wordsOf r (outcomeOf (joinPages es k x)) → length (given wordsOf es) ≤ r
-room-front es k r (all fs) h = omega (arith, given-length wordsOf es fs, h)
+room-front : (es : List Element) (k r : ℕ) (x : CaseOutcome) → roomFor wordsOf r (outcomeOf (joinPages es k x))
+    → length (given wordsOf es) ≤ r
+room-front es k r (all fs) h = given-front wordsOf es fs h
 room-front es k r (fault g n e p d) h = absurd h
 
 -- the lent words have room for those of the case
@@ -58,7 +39,8 @@ pub record Filled (case : List ℕ) (form pages start page : ℕ) (words₀ word
   pub read : Read case form pages start page es
   pub put : Put words₀ 0 (given wordsOf es) words o
 
-pub fill-start : {case : List ℕ} {form pages : ℕ} (words₀ : List ℕ) → headerOf case ≡ Pages form pages → Filled case form pages (8 + 2 * pages) 0 words₀ words₀ 0
+pub fill-start : {case : List ℕ} {form pages : ℕ} (words₀ : List ℕ) → headerOf case ≡ Pages form pages
+    → Filled case form pages (8 + 2 * pages) 0 words₀ words₀ 0
 unfolding given
 fill-start words₀ q = record { es = []; read = read-start q; put = put-none words₀ 0 }
 
@@ -70,7 +52,8 @@ record Taken (words : List ℕ) (o : ℕ) (x : Outcome Element) (a : Answer) (l�
   pub room : o + length (given wordsOf fs) ≤ length words
   pub holds : l′ ≡ over (behind words o) (given wordsOf fs)
 
-module _ {case : List ℕ} {form pages start page : ℕ} {words₀ words : List ℕ} {o : ℕ} (room : Roomy case words₀) (was : Filled case form pages start page words₀ words o) where
+module _ {case words₀ : List ℕ} (room : Roomy case words₀) {form pages start page : ℕ} {words : List ℕ} {o : ℕ}
+    (was : Filled case form pages start page words₀ words o) where
   room-so : {es : List Element} {k s : ℕ} → Read case form pages s k es → length (given wordsOf es) ≤ length words₀
   room-so {es} {k} r = room-front es k (length words₀) (readPages (drop k (pagesOf case))) (rw (r .sofar) at room)
 
@@ -84,13 +67,13 @@ module _ {case : List ℕ} {form pages start page : ℕ} {words₀ words : List 
     abbrev octets : List ℕ
     octets = part case start (start + len)
 
-    taken-by : {a : Answer} {l′ : List ℕ} (x : Outcome Element) → readIn f octets ≡ x → (a ≡ answerOf wordsOf len (length (behind words o)) x) × (l′ ≡ writtenOf wordsOf (behind words o) x) → Taken words o x a l′
+    taken-by : {a : Answer} {l′ : List ℕ} (x : Outcome Element) → readIn f octets ≡ x
+        → (a ≡ answerOf wordsOf len (length (behind words o)) x) × (l′ ≡ writtenOf wordsOf (behind words o) x) → Taken words o x a l′
     taken-by (accepted fs) q w =
+        let r = room-so (read-turn (was .read) h e fs q) in
         let k : o + length (given wordsOf fs) ≤ length words =
-        omega (arith, given-length wordsOf (was .es) fs, was .put .place, put-length (was .put), room-so (read-turn (was .read) h e fs q)) in
-        let n : length (behind words o) ≡ length words - o =
-        ap length (take-all (length words - o) (drop o words) (omega (arith, length-drop o words))) ∙ length-drop o words in
-        let t = le-leb (length (given wordsOf fs)) (length (behind words o)) (omega arith) in
+        omega (arith, given-length wordsOf (was .es) fs, was .put .place, put-length (was .put), r) in
+        let t = le-leb (length (given wordsOf fs)) (length (behind words o)) (omega (arith, behind-length words o)) in
         record {
           fs = fs;
           is = refl;
@@ -100,26 +83,28 @@ module _ {case : List ℕ} {form pages start page : ℕ} {words₀ words : List 
         }
     taken-by (refusal r n p d) q w = absurd (rw (read-stop (was .read) h e r n p d q) at room)
 
-    module _ {a : Answer} {l′ : List ℕ} (answered : (a ≡ readAnswer form octets (length (behind words o))) × (l′ ≡ readWords form octets (behind words o))) where
+    module _ {a : Answer} {l′ : List ℕ}
+        (answered : (a ≡ readAnswer form octets (length (behind words o))) × (l′ ≡ readWords form octets (behind words o))) where
       taken : Taken words o (readIn f octets) a l′
       unfolding readAnswer readWords
       taken =
           let l = read-length (was .read) h e in
           let k = le-leb (length octets) 0x100000 (omega (arith, l, e .1)) in
           let q = was .read .right .is-form in
-          taken-by (readIn f octets) refl
-          (answered .0 ∙ simp (q, k) (ap (λ (i : ℕ). answerOf wordsOf i (length (behind words o)) (readIn f octets)) l), answered .1 ∙ simp (q, k))
+          let n = ap (λ (i : ℕ). answerOf wordsOf i (length (behind words o)) (readIn f octets)) l in
+          taken-by (readIn f octets) refl (answered .0 ∙ simp (q, k) n, answered .1 ∙ simp (q, k))
 
       pub fill-turn : Filled case form pages (start + len) (page + 1) words₀ (putMid o (length words - o) words l′) (o + a .count)
       fill-turn =
           let t = taken in
+          let after = putMid o (length words - o) words l′ in
           let p = behind-put words o l′ (given wordsOf (t .fs)) (t .room) (t .holds) in
           record {
             es = was .es ++ t .fs;
             read = read-turn (was .read) h e (t .fs) (t .is);
             put =
-                put-as (sym (given-append wordsOf (was .es) (t .fs)))
-                (subst (λ (k : ℕ). Put words₀ 0 (given wordsOf (was .es) ++ given wordsOf (t .fs)) (putMid o (length words - o) words l′) (o + k)) (sym (t .count)) (put-both (was .put) p));
+                put-given wordsOf (was .es) (t .fs) (was .put)
+                (subst (λ (k : ℕ). Put words o (given wordsOf (t .fs)) after (o + k)) (sym (t .count)) p);
           }
 
       -- the count stays small
@@ -129,7 +114,4 @@ module _ {case : List ℕ} {form pages start page : ℕ} {words₀ words : List 
   -- at the end the buffer holds the words of all pages, and then the untouched rest
   pub fill-all : pages ≤ page → words ≡ readCaseWords case words₀
   unfolding readCaseWords
-  fill-all h =
-      let k = room-so (was .read) in
-      put-over (was .put) k
-      ∙ rw (read-all (was .read) h, le-leb (length (given wordsOf (was .es))) (length words₀) k)
+  fill-all h = put-given-all wordsOf (was .put) (ap outcomeOf (read-all (was .read) h)) room

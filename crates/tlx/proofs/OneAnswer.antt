@@ -1,4 +1,5 @@
--- Each public function's promise allows only one answer: two results that keep it, of the same arguments, are equal, and so are the buffers.
+-- Each public function's promise allows only one answer: two results that keep it, of the same arguments, are equal, and so are the
+-- buffers.
 -- Assumes nothing.
 use Prim.Native.Nat.{ℕ}
 use mathlib.Core.List.{List}
@@ -6,7 +7,7 @@ use lib.ListN.{length}
 use Rattle.run.proofs.OneAnswer.{Once, once, Once-both, once-both}
 use Rattle.case_table.specs.Check.{headerOf}
 use Rattle.case_writing.specs.FromParts.{writeCaseAnswer, writeCaseOctets}
-use Rattle.tlx.specs.Reading.{pageAnswer, readCaseAnswer, readCaseWords}
+use Rattle.tlx.specs.CaseReading.{pageAnswer, readCaseAnswer, readCaseWords}
 
 pub table : (form : ℕ) (case words lengths octets out : List ℕ) (page : ℕ)
     → Once (headerOf case)  -- header_of

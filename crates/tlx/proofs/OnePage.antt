@@ -9,9 +9,9 @@ use Rattle.run.specs.Answers.{bare}
 use Rattle.case_table.specs.declared.Header.the-variants.{Refused, Pages}
 use Rattle.case_table.specs.Layout.{number16}
 use Rattle.case_table.specs.Check.{headerOf}
-use Rattle.case_table.proofs.Standing.{right-header, totalBefore, part, page-is}
+use Rattle.case_table.proofs.PagePlaces.{right-header, totalBefore, part, page-is}
 use Rattle.tlx.specs.declared.Page.the-variants.{Is, NoPage}
-use Rattle.tlx.specs.Reading.{aloneAnswer, pageAnswer}
+use Rattle.tlx.specs.CaseReading.{aloneAnswer, pageAnswer}
 
 module _ (case : List ℕ) (page : ℕ) where
   pub turned-page : (r : ℕ) (a : Answer) → headerOf case ≡ Refused r → a ≡ bare r → Is a ≡ pageAnswer case page

@@ -18,14 +18,16 @@ use Rattle.sorts.specs.Forms.{formOf}
 use Rattle.element_words.specs.declared.Element.{Element}
 use Rattle.element_words.specs.Words.{wordsOf}
 use Rattle.element_reading.proofs.Reader.{reads}
-use Rattle.text_reading.specs.Answers.{readIn}
-use Rattle.text_reading.proofs.Reading.{accepted-exactly, few-words, measure-is}
+use Rattle.text_reading.specs.ReadAnswers.{readIn}
+use Rattle.text_reading.proofs.ReadTexts.{accepted-exactly, few-words, measure-is}
 use Rattle.case_table.specs.declared.Header.the-variants.{Pages}
 use Rattle.case_table.specs.Layout.{number16, lengthsIn, total}
 use Rattle.case_table.specs.Check.{headerOf, pagesOf}
-use Rattle.case_table.proofs.Standing.{Right, right-header, totalBefore, part, pages-counted, start-next, page-inside, part-length, page-next}
+use Rattle.case_table.proofs.PagePlaces.{Right, right-header, totalBefore, part, pages-counted, start-next, page-inside, part-length}
+use Rattle.case_table.proofs.PagePlaces.{page-next}
 use Rattle.tlx.specs.declared.CaseAnswer.{CaseAnswer}
-use Rattle.tlx.specs.Reading.{CaseOutcome, all, fault, joinPages, afterPage, readPage, readPages, readCase, beside, aloneAnswer, caseMeasured}
+use Rattle.tlx.specs.CaseReading.{CaseOutcome, all, fault, joinPages, afterPage, readPage, readPages, readCase, beside, aloneAnswer}
+use Rattle.tlx.specs.CaseReading.{caseMeasured}
 
 -- ---- one page
 
@@ -34,7 +36,8 @@ pub page-read : (form : ℕ) {f : Form} → formOf form ≡ Is f → (octets : L
 page-read form q octets = simp q
 
 -- a page within the limit is answered by its reading alone: 12 is not asked
-pub alone-is : (form : ℕ) {f : Form} → formOf form ≡ Is f → (octets : List ℕ) → length octets ≤ 0x100000 → aloneAnswer (form, octets) ≡ roomyAnswer wordsOf (length octets) (readIn f octets)
+pub alone-is : (form : ℕ) {f : Form} → formOf form ≡ Is f → (octets : List ℕ) → length octets ≤ 0x100000
+    → aloneAnswer (form, octets) ≡ roomyAnswer wordsOf (length octets) (readIn f octets)
 alone-is form {f} q octets h = measure-is form f q octets h
 
 -- a refusal has a number
@@ -82,7 +85,8 @@ read-start {case} {form} {pages} q =
     }
 
 -- the numbers stay small
-pub read-small : {case : List ℕ} {form pages start page : ℕ} {es : List Element} → Read case form pages start page es → (length es ≤ 16777480) × (length (given wordsOf es) ≤ 34 * 16777480) × (start ≤ 16777480)
+pub read-small : {case : List ℕ} {form pages start page : ℕ} {es : List Element} → Read case form pages start page es
+    → (length es ≤ 16777480) × (length (given wordsOf es) ≤ 34 * 16777480) × (start ≤ 16777480)
 read-small was =
     omega (arith, was .elements, was .words, was .small, was .right .few, was .inside)
 
@@ -105,9 +109,11 @@ module _ {case : List ℕ} {form pages start page : ℕ} {es : List Element} (wa
     unfolding readPages
     page-on =
         ap readPages (page-next (was .right) h (was .begins) (e .0))
-        ∙ ap (λ (x : Outcome Element). afterPage x (readPages (drop (page + 1) (pagesOf case)))) (page-read form (was .right .is-form) octets)
+        ∙ ap (λ (x : Outcome Element). afterPage x (readPages (drop (page + 1) (pagesOf case))))
+        (page-read form (was .right .is-form) octets)
 
-    on : (x : Outcome Element) → readIn f octets ≡ x → readCase case ≡ joinPages es page (afterPage x (readPages (drop (page + 1) (pagesOf case))))
+    on : (x : Outcome Element) → readIn f octets ≡ x
+        → readCase case ≡ joinPages es page (afterPage x (readPages (drop (page + 1) (pagesOf case))))
     on x q =
         was .sofar
         ∙ ap (joinPages es page) (page-on ∙ ap (λ (y : Outcome Element). afterPage y (readPages (drop (page + 1) (pagesOf case)))) q)
@@ -134,9 +140,8 @@ module _ {case : List ℕ} {form pages start page : ℕ} {es : List Element} (wa
   pub read-all : pages ≤ page → readCase case ≡ all es
   unfolding readPages
   read-all h =
-      was .sofar
-      ∙ ap (λ (l : List (ℕ × List ℕ)). joinPages es page (readPages l)) (drop-of-length-le (pagesOf case) {i = page} (omega (arith, pages-counted (was .right))))
-      ∙ ap all (append-nil es)
+      let none : drop page (pagesOf case) ≡ [] = drop-of-length-le (pagesOf case) {i = page} (omega (arith, pages-counted (was .right))) in
+      was .sofar ∙ ap (λ (l : List (ℕ × List ℕ)). joinPages es page (readPages l)) none ∙ ap all (append-nil es)
 
   pub read-end : pages ≤ page → start ≡ length case
   read-end h =
@@ -159,7 +164,8 @@ module _ {case : List ℕ} {form pages start page n count : ℕ} (was : Measured
   pub measured-small : (n ≤ 16777480) × (count ≤ 34 * 16777480) × (start ≤ 16777480)
   measured-small = omega (arith, was .number, was .counted, read-small (was .read))
 
-  module _ (h : page < pages) {len : ℕ} (e : (len ≡ number16 case (8 + 2 * page)) × (len < 0x10000)) {m : Answer} (a : m ≡ aloneAnswer (form, part case start (start + len))) where
+  module _ (h : page < pages) {len : ℕ} (e : (len ≡ number16 case (8 + 2 * page)) × (len < 0x10000))
+      {m : Answer} (a : m ≡ aloneAnswer (form, part case start (start + len))) where
     abbrev g : Form
     g = was .read .right .the-form
 
@@ -169,9 +175,12 @@ module _ {case : List ℕ} {form pages start page n count : ℕ} (was : Measured
     by-page : m ≡ roomyAnswer wordsOf len (readIn g the-page)
     by-page =
         let l = read-length (was .read) h e in
-        a ∙ alone-is form (was .read .right .is-form) the-page (omega (arith, l, e .1)) ∙ ap (λ (k : ℕ). roomyAnswer wordsOf k (readIn g the-page)) l
+        a
+        ∙ alone-is form (was .read .right .is-form) the-page (omega (arith, l, e .1))
+        ∙ ap (λ (k : ℕ). roomyAnswer wordsOf k (readIn g the-page)) l
 
-    turn-by : (x : Outcome Element) → readIn g the-page ≡ x → m ≡ roomyAnswer wordsOf len x → m .number ≡ 0 → Measured case form pages (start + len) (page + 1) (n + m .element) (count + m .count)
+    turn-by : (x : Outcome Element) → readIn g the-page ≡ x → m ≡ roomyAnswer wordsOf len x → m .number ≡ 0
+        → Measured case form pages (start + len) (page + 1) (n + m .element) (count + m .count)
     turn-by (accepted fs) q b z =
         let i = ap (λ (y : Answer). y .element) b in
         let c = ap (λ (y : Answer). y .count) b in
@@ -184,7 +193,8 @@ module _ {case : List ℕ} {form pages start page n count : ℕ} (was : Measured
     turn-by (refusal r k p d) q b z =
         let i = ap (λ (y : Answer). y .number) b in absurd (omega (arith, i, has-number g the-page q))
 
-    stop-by : (x : Outcome Element) → readIn g the-page ≡ x → m ≡ roomyAnswer wordsOf len x → (m .number ≡ 0 → ⊥) → beside page m ≡ caseMeasured (length case) (readCase case)
+    stop-by : (x : Outcome Element) → readIn g the-page ≡ x → m ≡ roomyAnswer wordsOf len x → (m .number ≡ 0 → ⊥)
+        → beside page m ≡ caseMeasured (length case) (readCase case)
     stop-by (accepted fs) q b z = absurd (z (ap (λ (y : Answer). y .number) b))
     stop-by (refusal r k p d) q b z =
         ap (beside page) b ∙ sym (ap (caseMeasured (length case)) (read-stop (was .read) h e r k p d q))

@@ -1,17 +1,16 @@
--- From the first pass's answer to the whole answer of a case, with the room (`run`'s laws of rooms, through `outcomeOf`); and what a refused header
--- answers.
+-- From the first pass's answer to the whole answer of a case, with the room (`run`'s laws of rooms, through `outcomeOf`); and what a
+-- refused header answers.
 -- Assumes nothing.
 use Prim.Native.Nat.{ℕ, _≤_, _<_}
 use mathlib.Core.Path.{_≡_, refl, sym, ap, ap₂, _∙_}
-use mathlib.Core.Bool.{Bool, true, false}
 use mathlib.Core.List.{List, [], _∷_}
 use native.Mathlib.Omega.{arith}
 use lib.Dec.{leb}
 use lib.ListN.{length}
-use Rattle.run.specs.Choice.{pick}
 use Rattle.run.specs.Head.{Outcome, accepted, refusal}
 use Rattle.run.specs.declared.Answer.{Answer}
-use Rattle.run.specs.Answers.{answer, bare, shortRoom, roomFor, writtenOf}
+use Rattle.run.specs.Answers.{answer, bare, shortRoom, countOf, roomFor, writtenOf}
+use Rattle.run.proofs.Choices.{pick-case}
 use Rattle.run.proofs.Rooms as rooms
 use Rattle.sorts.specs.declared.FormFound.{FormFound}
 use Rattle.sorts.specs.declared.FormFound.the-variants.{Is, Nothing}
@@ -21,16 +20,19 @@ use Rattle.element_words.specs.declared.Element.{Element}
 use Rattle.case_table.specs.declared.Header.the-variants.{Refused, Pages}
 use Rattle.case_table.specs.Check.{headerOf, pagesOf}
 use Rattle.tlx.specs.declared.CaseAnswer.{CaseAnswer}
-use Rattle.tlx.specs.Reading.{CaseOutcome, all, fault, joinPages, afterPage, readPage, readPages, readCase, turned, beside, outcomeOf, pageOf, caseAnswer, caseMeasured, readCaseAnswer, readCaseWords}
+use Rattle.tlx.specs.CaseReading.{CaseOutcome, all, fault, joinPages, afterPage, readPage, readPages, readCase, turned, beside}
+use Rattle.tlx.specs.CaseReading.{outcomeOf, pageOf, caseAnswer, caseMeasured, readCaseAnswer, readCaseWords}
 use Rattle.tlx.proofs.Pages.{case-is, has-number}
 
 -- ---- a refusal has a number
 
-joined-numbered : (es : List Element) (k : ℕ) (x : CaseOutcome) → rooms.Numbered (outcomeOf x) → rooms.Numbered (outcomeOf (joinPages es k x))
+joined-numbered : (es : List Element) (k : ℕ) (x : CaseOutcome) → rooms.Numbered (outcomeOf x)
+    → rooms.Numbered (outcomeOf (joinPages es k x))
 joined-numbered es k (all fs) h = tt
 joined-numbered es k (fault g r n p d) h = h
 
-after-numbered : (x : CaseOutcome) → rooms.Numbered (outcomeOf x) → (y : Outcome Element) → rooms.Numbered y → rooms.Numbered (outcomeOf (afterPage y x))
+after-numbered : (x : CaseOutcome) → rooms.Numbered (outcomeOf x) → (y : Outcome Element) → rooms.Numbered y
+    → rooms.Numbered (outcomeOf (afterPage y x))
 after-numbered x h (accepted es) z = joined-numbered es 1 x h
 after-numbered x h (refusal r n p d) z = z
 
@@ -56,7 +58,8 @@ no-page : (n : ℕ) (x : CaseOutcome) → rooms.Numbered (outcomeOf x) → caseM
 no-page n (all es) z h = refl
 no-page n (fault g r e p d) z h = absurd (omega arith)
 
-module _ (case : List ℕ) (form pages : ℕ) (header : headerOf case ≡ Pages form pages) (l : List ℕ) (a : CaseAnswer) (q : a ≡ caseMeasured (length case) (readCase case)) where
+module _ (case : List ℕ) (form pages : ℕ) (header : headerOf case ≡ Pages form pages) (l : List ℕ)
+    (a : CaseAnswer) (q : a ≡ caseMeasured (length case) (readCase case)) where
   abbrev x : Outcome Element
   x = outcomeOf (readCase case)
 
@@ -78,7 +81,8 @@ module _ (case : List ℕ) (form pages : ℕ) (header : headerOf case ≡ Pages 
     named = no-page (length case) (readCase case) z (sym (ap (λ (y : CaseAnswer). y .answer .number) q) ∙ h)
 
     -- the room is short
-    pub short : (s : Answer) → s ≡ shortRoom (m .count) → length l < m .count → (_≡_ {A = CaseAnswer} (beside 0 s) (readCaseAnswer case (length l))) × (l ≡ readCaseWords case l)
+    pub short : (s : Answer) → s ≡ shortRoom (m .count) → length l < m .count
+        → (_≡_ {A = CaseAnswer} (beside 0 s) (readCaseAnswer case (length l))) × (l ≡ readCaseWords case l)
     unfolding readCaseAnswer readCaseWords
     short s e k =
         let r = rooms.short wordsOf (length case) l m x z (ap (λ (y : CaseAnswer). y .answer) q) h k in
@@ -93,16 +97,16 @@ module _ (case : List ℕ) (form pages : ℕ) (header : headerOf case ≡ Pages 
 
 -- ---- a header that is refused
 
-no-count : (t : Bool) → _≡_ {A = ℕ} (pick t 0 0) 0
-no-count true = refl
-no-count false = refl
-
 pub case-turned : (case : List ℕ) (r : ℕ) → headerOf case ≡ Refused r → readCase case ≡ turned r
 unfolding readCase
 case-turned case r q = simp q
 
-pub turned-answers : (case : List ℕ) (r : ℕ) (l : List ℕ) → headerOf case ≡ Refused r → (_≡_ {A = CaseAnswer} (beside 0 (bare r)) (readCaseAnswer case (length l))) × (l ≡ readCaseWords case l)
+pub turned-answers : (case : List ℕ) (r : ℕ) (l : List ℕ) → headerOf case ≡ Refused r
+    → (_≡_ {A = CaseAnswer} (beside 0 (bare r)) (readCaseAnswer case (length l))) × (l ≡ readCaseWords case l)
 unfolding readCaseAnswer readCaseWords
 turned-answers case r l q =
     let t = case-turned case r q in
-    (ap (λ (c : ℕ). beside 0 (answer r 0 0 c)) (sym (no-count (leb r 8))) ∙ sym (ap (caseAnswer (length case) (length l)) t), sym (ap (λ (y : CaseOutcome). writtenOf wordsOf l (outcomeOf y)) t))
+    let c : _≡_ {A = ℕ} (countOf r 0) 0 = pick-case (λ (k : ℕ). k ≡ 0) (leb r 8) 0 0 (λ e. refl) (λ e. refl) in (
+      ap (λ (c : ℕ). beside 0 (answer r 0 0 c)) (sym c) ∙ sym (ap (caseAnswer (length case) (length l)) t),
+      sym (ap (λ (y : CaseOutcome). writtenOf wordsOf l (outcomeOf y)) t),
+    )

@@ -1,2 +1,2 @@
-pub mod Reading
-pub mod Table
+pub mod CaseReading
+pub mod CaseReadingNumbers

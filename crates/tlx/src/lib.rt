@@ -8,7 +8,7 @@ ghost use lib.ListN.{length};
 ghost use Rattle.element_words.specs.Words.{wordsOf};
 ghost use Rattle.run.specs.Answers.{roomFor};
 ghost use Rattle.case_table.specs.Check.{headerOf};
-ghost use Rattle.tlx.specs.Reading.{outcomeOf, readCase, caseMeasured, readCaseAnswer, readCaseWords, pageAnswer};
+ghost use Rattle.tlx.specs.CaseReading.{outcomeOf, readCase, caseMeasured, readCaseAnswer, readCaseWords, pageAnswer};
 
 // The four numbers of an answer, and the page beside them (0 in any answer that is not a page's refusal).
 #[repr(C)]

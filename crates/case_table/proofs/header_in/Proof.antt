@@ -20,7 +20,10 @@ begun c =
 abbrev lent : tie.After-enum-told → List ℕ
 lent c = c .before .before .before .before .before .before .before .before .before .before .before .args .header .now
 
-known : (c : tie.After-enum-told) → Known version-1 (lent c) (c .before .before .before .before .before .before .before .before .before .before .before .args .size)
+abbrev said : tie.After-enum-told → ℕ
+said c = c .before .before .before .before .before .before .before .before .before .before .before .args .size
+
+known : (c : tie.After-enum-told) → Known version-1 (lent c) (said c)
 known c =
     let o = c .before .before .before in
     let v = o .before in
@@ -97,8 +100,9 @@ returns-7 : tie.Need-returns-7
 returns-7 c =
     let e = c .before .before in
     let n = e .before .number-at2 .ensures .0 in
+    let size = sized (lent (e .before .before)) _ _ _ n (c .before .total-of .ensures .0) (e .if4 .left) in
     ap₂ Pages (e .before .before .before .before .before .octet-at .ensures .0) n
-    ∙ right _ _ _ _ (known (e .before .before)) (omega (arith, n)) (c .if5 .left ∙ sized (lent (e .before .before)) _ _ _ n (c .before .total-of .ensures .0) (e .if4 .left))
+    ∙ right _ _ _ _ (known (e .before .before)) (omega (arith, n)) (c .if5 .left ∙ size)
 
 pub header-in-spec : {M : Type 1} → statement M
 header-in-spec =

@@ -1,10 +1,12 @@
--- `header_of` meets its contract: `header_in` of the case's parts (`header-parts`); a case too short to have a header is refused by its size (`case-short`).
+-- `header_of` meets its contract: `header_in` of the case's parts (`header-parts`); a case too short to have a header is refused by its
+-- size (`case-short`).
 use mathlib.Core.Path.{sym, ap, _∙_}
 use mathlib.Core.List.{List}
-use Prim.Native.Nat.{ℕ, _-_}
+use Prim.Native.Nat.{ℕ}
 use native.Mathlib.Omega.{arith}
-use lib.ListN.{length, take, drop, length-drop}
-use lib.Seq.{take-all, length-take-le}
+use lib.ListN.{length, take}
+use lib.Seq.{length-take-le}
+use Rattle.run.proofs.Puts.{behind-is}
 use borrow.Author.Needs.{needs}
 use Rattle.case_table.specs.Layout.{version-1}
 use Rattle.case_table.specs.Check.{headerIn}
@@ -34,7 +36,7 @@ returns-2 : tie.Need-returns-2
 returns-2 c =
     let case = c .before .before .before .before .before .args .case .now in
     c .header-in .ensures
-    ∙ ap (λ (l : List ℕ). headerIn version-1 (take 8 case) l (length case)) (take-all (length case - 8) (drop 8 case) (omega (arith, length-drop 8 case)))
+    ∙ ap (λ (l : List ℕ). headerIn version-1 (take 8 case) l (length case)) (behind-is case 8)
     ∙ header-parts case
 
 pub header-of-spec : {M : Type 1} → statement M

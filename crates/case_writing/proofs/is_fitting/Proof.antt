@@ -38,7 +38,7 @@ cast-sum : tie.Need-cast-sum Inv-loop μ-loop
 cast-sum c = omega (arith, c .shared-slice-known2 .given (c .before .before .before .before .loop .i))
 
 add-sum : tie.Need-add-sum Inv-loop μ-loop
-add-sum c = omega (arith, c .before .before .before .before .loop .inv .few, c .before .before .before .before .loop .inv .small, c .before .if2 .left)
+add-sum c = let was = c .before .before .before .before .loop .inv in omega (arith, was .few, was .small, c .before .if2 .left)
 
 add-i : tie.Need-add-i Inv-loop μ-loop
 add-i c = search needs
@@ -47,7 +47,8 @@ loop-less : tie.Need-loop-less Inv-loop μ-loop
 loop-less c = search needs
 
 loop-again : tie.Need-loop-again Inv-loop μ-loop
-loop-again c = tested-turn _ _ _ (c .before .before .before .before .loop .inv) (c .before .before .before .loop-test .taken) (c .before .if2 .left)
+loop-again c =
+    let test = c .before .before .before in tested-turn _ _ _ (test .before .loop .inv) (test .loop-test .taken) (c .before .if2 .left)
 
 returns-3 : tie.Need-returns-3 Inv-loop μ-loop
 returns-3 c = tested-all _ _ _ (c .before .loop .inv) _ (c .loop-test .left)

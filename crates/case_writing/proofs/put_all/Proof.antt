@@ -22,9 +22,10 @@ shared-slice-read-put : tie.Need-shared-slice-read-put Inv-loop μ-loop
 shared-slice-read-put c = search needs
 
 -- the next octet has room
-room : (c : tie.After-shared-slice-known2 Inv-loop μ-loop) → c .before .before .before .loop .o + 1 ≤ length (c .before .before .before .loop .out)
+room : (c : tie.After-shared-slice-known2 Inv-loop μ-loop) → let i = c .before .before .before .loop in i .o + 1 ≤ length (i .out)
 room c =
-    omega (arith, c .before .before .before .before .before .before .pre, single-place (c .before .before .before .loop .inv), put-length (c .before .before .before .loop .inv .put))
+    let at = c .before .before .before in
+    omega (arith, at .before .before .before .pre, single-place (at .loop .inv), put-length (at .loop .inv .put))
 
 put-requires : tie.Need-put-requires Inv-loop μ-loop
 put-requires c κs = search needs
@@ -36,7 +37,11 @@ loop-less : tie.Need-loop-less Inv-loop μ-loop
 loop-less c = search needs
 
 loop-again : tie.Need-loop-again Inv-loop μ-loop
-loop-again c = given-turn _ _ _ _ _ _ _ (c .before .before .before .before .before .before .loop .inv) (c .before .before .before .before .before .loop-test .taken) _ _ (put-fits (_ ∷ []) (room (c .before .before .before)) (c .before .before .put .ensures))
+loop-again c =
+    let octet = c .before .before .before in
+    let test = octet .before .before in
+    given-turn _ _ _ _ _ _ _ (test .before .loop .inv) (test .loop-test .taken) _ _
+    (put-fits (_ ∷ []) (room octet) (c .before .before .put .ensures))
 
 same-length : tie.Need-same-length Inv-loop μ-loop
 same-length c = put-length (c .before .loop .inv .put)

@@ -3,6 +3,7 @@ use borrow.Author.Needs.{needs}
 use Prim.Native.Nat.{_-_}
 use native.Mathlib.Omega.{arith}
 use lib.ListN.{length}
+use Rattle.run.proofs.Members.{member-at}
 use Rattle.run.proofs.Puts.{put-length}
 use Rattle.case_table.specs.Layout.{big16}
 use Rattle.case_writing.proofs.Parts.{Given, given-none, given-turn, given-all, table-place, none-over}
@@ -25,7 +26,12 @@ shared-slice-read-put-number : tie.Need-shared-slice-read-put-number Inv-loop μ
 shared-slice-read-put-number c = search needs
 
 put-number-requires : tie.Need-put-number-requires Inv-loop μ-loop
-put-number-requires c κs = (omega (arith, c .before .before .before .before .before .before .pre .0, table-place (c .before .before .before .loop .inv), put-length (c .before .before .before .loop .inv .put)), omega (arith, none-over 0xFFFF _ (c .before .before .before .before .before .before .pre .1) (c .before .before .before .loop .i) (c .before .before .loop-test .taken)))
+put-number-requires c κs =
+    let at = c .before .before .before in
+    let i = at .loop in
+    let p = at .before .before .before .pre in
+    let small = none-over 0xFFFF _ (p .1) _ (member-at _ 0 (i .i) (c .before .before .loop-test .taken)) in
+    (omega (arith, p .0, table-place (i .inv), put-length (i .inv .put)), omega (arith, small))
 
 add-i : tie.Need-add-i Inv-loop μ-loop
 add-i c = search needs
@@ -34,7 +40,9 @@ loop-less : tie.Need-loop-less Inv-loop μ-loop
 loop-less c = search needs
 
 loop-again : tie.Need-loop-again Inv-loop μ-loop
-loop-again c = given-turn _ _ _ _ _ _ _ (c .before .before .before .before .before .before .loop .inv) (c .before .before .before .before .before .loop-test .taken) _ _ (c .before .before .put-number .ensures)
+loop-again c =
+    let test = c .before .before .before .before .before in
+    given-turn _ _ _ _ _ _ _ (test .before .loop .inv) (test .loop-test .taken) _ _ (c .before .before .put-number .ensures)
 
 same-length : tie.Need-same-length Inv-loop μ-loop
 same-length c = put-length (c .before .loop .inv .put)

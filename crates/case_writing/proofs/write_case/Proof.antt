@@ -17,13 +17,18 @@ use Rattle.case_writing.proofs.write_case.Tie as tie
 use Rattle.sorts.proofs.FormNumbers.{form-small, found-is}
 
 -- what was asked before a place: the form is known, and the parts fit
-is-form : (c : tie.After-enum-told) → formOf (c .before .before .before .before .before .before .args .form) ≡ Is (c .enum-told .given .0 .0)
+is-form : (c : tie.After-enum-told)
+    → formOf (c .before .before .before .before .before .before .args .form) ≡ Is (c .enum-told .given .0 .0)
 is-form c = sym (c .before .before .form-of .ensures) ∙ c .enum-told .given .1
 
-they-fit : (c : tie.Else1) → let a = c .before .before .before .before .before .before .before .before .args in fitting (a .lengths .now) (length (a .octets .now)) ≡ true
+they-fit : (c : tie.Else1) →
+    let a = c .before .before .before .before .before .before .before .before .args in
+    fitting (a .lengths .now) (length (a .octets .now)) ≡ true
 they-fit c = sym (c .before .is-fitting .ensures) ∙ not-false _ (c .if1 .left)
 
-they-are : (c : tie.Else1) → let a = c .before .before .before .before .before .before .before .before .args in Fits (a .lengths .now) (length (a .octets .now))
+they-are : (c : tie.Else1) →
+    let a = c .before .before .before .before .before .before .before .before .args in
+    Fits (a .lengths .now) (length (a .octets .now))
 they-are c = fits _ _ (they-fit c)
 
 form-of-requires : tie.Need-form-of-requires
@@ -42,7 +47,8 @@ returns : tie.Need-returns
 returns c =
     let f = c .before .before .before in
     let a = f .before .before .before .before .args in
-    no-form _ (a .lengths .now) (a .octets .now) (a .case .now) _ (c .bare-answer .ensures) (sym (f .form-of .ensures) ∙ c .before .enum-told2 .given .1)
+    no-form _ (a .lengths .now) (a .octets .now) (a .case .now) _ (c .bare-answer .ensures)
+    (sym (f .form-of .ensures) ∙ c .before .enum-told2 .given .1)
 
 is-fitting-requires : tie.Need-is-fitting-requires
 is-fitting-requires c κs = search needs
@@ -74,7 +80,8 @@ returns-3 c =
     let fit = c .before .before in
     let told = fit .before .before in
     let a = told .before .before .before .before .before .before .args in
-    short _ (a .lengths .now) (a .octets .now) (a .case .now) _ (is-form told) (they-fit fit) _ (c .short-room .ensures) (c .before .if2 .taken)
+    short _ (a .lengths .now) (a .octets .now) (a .case .now) _ (is-form told) (they-fit fit) _ (c .short-room .ensures)
+    (c .before .if2 .taken)
 
 put-header-requires : tie.Need-put-header-requires
 put-header-requires c κs =

@@ -1,7 +1,7 @@
 -- By the sort of the first octet (first-here, refused-here), and at the end that none is left (none-left).
 use mathlib.Core.Path.{sym, _∙_}
 use native.Mathlib.Omega.{arith}
-use Rattle.element_reading.proofs.Steps.{none-left, first-here, refused-here, follower-first, sequence-first}
+use Rattle.element_reading.proofs.Steps.{none-left, first-here, refused-here, follower-behind, sequence-first}
 use borrow.Author.Needs.{needs}
 use Rattle.element_reading.proofs.element_at.Statement.{statement}
 use Rattle.element_reading.proofs.element_at.Tie as tie
@@ -83,7 +83,7 @@ returns-3 c =
     let at-sort2 = c .before .before in
     let at-sort-in = at-sort2 .before .before in
     let at-if1 = at-sort-in .before .before in
-    c .follower-step .ensures ∙ follower-first _ _ _ _ _ ∙ first-here _ _ _ _ (at-if1 .if1 .left)
+    c .follower-step .ensures ∙ follower-behind _ _ _ 1 _ _ ∙ first-here _ _ _ _ (at-if1 .if1 .left)
     (sym (at-sort-in .sort-in .ensures) ∙ at-sort2 .sort2 .given .1)
 
 returns-4 : tie.Need-returns-4

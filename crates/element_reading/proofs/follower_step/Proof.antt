@@ -1,7 +1,7 @@
 -- The end (follower-end), a listed follower (follower-is), any other (follower-not).
 use mathlib.Core.Path.{sym, ap, _∙_}
 use Rattle.squares.proofs.SquareFacts.{square-small}
-use Rattle.element_reading.specs.Reading.{highOr3}
+use Rattle.element_reading.specs.Reading.{highOr}
 use Rattle.element_reading.proofs.Steps.{follower-end, follower-not, follower-is}
 use borrow.Author.Needs.{needs}
 use Rattle.element_reading.proofs.follower_step.Statement.{statement}
@@ -28,8 +28,8 @@ enum-told c = search needs
 sort-in-requires : tie.Need-sort-in-requires
 sort-in-requires c κs = search needs
 
-high-or-3-requires : tie.Need-high-or-3-requires
-high-or-3-requires c κs = search needs
+high-or-requires : tie.Need-high-or-requires
+high-or-requires c κs = search needs
 
 refused-at-requires-2 : tie.Need-refused-at-requires-2
 refused-at-requires-2 c κs = search needs
@@ -43,7 +43,7 @@ returns-2 c =
     let at-pre = at-if1 .before .before in
     c .refused-at2 .ensures ∙ follower-not _ _ _ _ _ _ (at-pre .pre .0) _ (at-if1 .if1 .left)
     (sym (at-paired .paired .ensures) ∙ at-enum-told .enum-told .given .1)
-    (c .before .high-or-3 .ensures ∙ ap highOr3 (at-sort-in .sort-in .ensures))
+    (c .before .high-or .ensures ∙ ap (highOr 3) (at-sort-in .sort-in .ensures))
 
 graphic-word-requires : tie.Need-graphic-word-requires
 graphic-word-requires c κs = square-small _ _ _ (sym (c .before .before .before .paired .ensures) ∙ c .before .found .given .1)
@@ -71,7 +71,7 @@ follower-step-spec =
     enum-known-found
     enum-told
     sort-in-requires
-    high-or-3-requires
+    high-or-requires
     refused-at-requires-2
     returns-2
     graphic-word-requires

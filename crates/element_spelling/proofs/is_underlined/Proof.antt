@@ -1,6 +1,5 @@
 -- Words below 2^24 are not underlined (under-low), those from there to 2^25 are (under-high).
 use Rattle.element_spelling.proofs.Steps.{under-low, under-high}
-use borrow.Author.Needs.{needs}
 use Rattle.element_spelling.proofs.is_underlined.Statement.{statement}
 use Rattle.element_spelling.proofs.is_underlined.Tie as tie
 

@@ -61,27 +61,35 @@ same-length-2 c = search needs
 
 returns-2 : tie.Need-returns-2
 returns-2 c =
-    let x = c .before .before .before .before .before .before .before .before .before .x2 .given .1 in
+    let last = c .before .before in
+    let first = last .before .before .before .before in
+    let x = first .before .before .before .x2 .given .1 in
     put-as (sym (ap octetsOf x))
-    (put-two (omega (arith, ap (λ (x : Spelling). length (octetsOf x)) x)) (c .before .before .before .before .before .before .put2 .ensures) (c .before .before .put3 .ensures))
+    (put-two (omega (arith, ap (λ (x : Spelling). length (octetsOf x)) x)) (first .put2 .ensures) (last .put3 .ensures))
 
 same-length-3 : tie.Need-same-length-3
 same-length-3 c = search needs
 
 returns-3 : tie.Need-returns-3
 returns-3 c =
-    let x = c .before .before .before .before .before .before .before .before .before .x3 .given .1 in
+    let last = c .before .before in
+    let first = last .before .before .before .before in
+    let x = first .before .before .before .x3 .given .1 in
     put-as (sym (ap octetsOf x))
-    (put-two (omega (arith, ap (λ (x : Spelling). length (octetsOf x)) x)) (c .before .before .before .before .before .before .put4 .ensures) (c .before .before .put5 .ensures))
+    (put-two (omega (arith, ap (λ (x : Spelling). length (octetsOf x)) x)) (first .put4 .ensures) (last .put5 .ensures))
 
 same-length-4 : tie.Need-same-length-4
 same-length-4 c = search needs
 
 returns-4 : tie.Need-returns-4
 returns-4 c =
-    let x = c .before .before .before .before .before .before .before .before .before .before .before .before .before .x4 .given .1 in
+    let last = c .before .before in
+    let second = last .before .before .before .before in
+    let first = second .before .before .before .before in
+    let x = first .before .before .before .x4 .given .1 in
     put-as (sym (ap octetsOf x))
-    (put-three (omega (arith, ap (λ (x : Spelling). length (octetsOf x)) x)) (c .before .before .before .before .before .before .before .before .before .before .put6 .ensures) (c .before .before .before .before .before .before .put7 .ensures) (c .before .before .put8 .ensures))
+    (put-three (omega (arith, ap (λ (x : Spelling). length (octetsOf x)) x)) (first .put6 .ensures) (second .put7 .ensures)
+    (last .put8 .ensures))
 
 returns-5 : tie.Need-returns-5
 returns-5 c = put-as (sym (ap octetsOf (c .enum-told .given .1))) (put-none _ _)

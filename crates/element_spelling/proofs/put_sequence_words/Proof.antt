@@ -2,7 +2,7 @@
 use mathlib.Core.Path.{sym, ap, _∙_}
 use native.Mathlib.Omega.{arith}
 use borrow.Author.Tests.{not-true, not-false}
-use Rattle.element_spelling.specs.ElementOctets.{bareSort}
+use Rattle.element_spelling.specs.ElementOctets.{sortTag}
 use Rattle.element_spelling.proofs.Steps.{fits-as, put-nothing, no-start, not-spelt, is-spelt, putted}
 use Rattle.element_words.proofs.HeadWords.{head-enough, middle-small}
 use Rattle.run.proofs.Puts.{put-as}
@@ -13,22 +13,23 @@ use Rattle.element_spelling.proofs.put_sequence_words.Tie as tie
 sort-in-requires : tie.Need-sort-in-requires
 sort-in-requires c κs = search needs
 
-bare-sort-requires : tie.Need-bare-sort-requires
-bare-sort-requires c κs = search needs
+sort-tag-requires : tie.Need-sort-tag-requires
+sort-tag-requires c κs = search needs
 
 returns : tie.Need-returns
 returns c =
     put-nothing _ _ _
-    (no-start _ _ _ (λ e. c .if1 .taken (c .before .bare-sort .ensures ∙ ap bareSort (c .before .before .sort-in .ensures) ∙ e)))
+    (no-start _ _ _ (λ e. c .if1 .taken (c .before .sort-tag .ensures ∙ ap sortTag (c .before .before .sort-in .ensures) ∙ e)))
 
 is-sequence-requires : tie.Need-is-sequence-requires
 is-sequence-requires c κs = search needs
 
 returns-2 : tie.Need-returns-2
 returns-2 c =
+    let at-if1 = c .before .before in
+    let sort = at-if1 .before .sort-tag .ensures ∙ ap sortTag (at-if1 .before .before .sort-in .ensures) in
     put-nothing _ _ _
-    (not-spelt _ _ _ (sym (c .before .before .before .bare-sort .ensures ∙ ap bareSort (c .before .before .before .before .sort-in .ensures)) ∙ c .before .before .if1 .left)
-    (sym (c .before .is-sequence .ensures) ∙ not-true _ (c .if2 .taken)))
+    (not-spelt _ _ _ (sym sort ∙ at-if1 .if1 .left) (sym (c .before .is-sequence .ensures) ∙ not-true _ (c .if2 .taken)))
 
 sub-middle : tie.Need-sub-middle
 sub-middle c =
@@ -53,7 +54,9 @@ returns-3 : tie.Need-returns-3
 returns-3 c =
     let test = c .before .before .before .before .before in
     let is = sym (test .is-sequence .ensures) ∙ not-false _ (c .before .before .before .before .if2 .left) in
-    let start = sym (test .before .before .bare-sort .ensures ∙ ap bareSort (test .before .before .before .sort-in .ensures)) ∙ test .before .if1 .left in
+    let at-if1 = test .before in
+    let sort = at-if1 .before .sort-tag .ensures ∙ ap sortTag (at-if1 .before .before .sort-in .ensures) in
+    let start = sym sort ∙ at-if1 .if1 .left in
     fits-as (sym (is-spelt _ _ _ start is)) (put-as (putted _ _ is _ _) (c .before .before .put-sequence .ensures))
 
 pub put-sequence-words-spec : {M : Type 1} → statement M
@@ -61,7 +64,7 @@ put-sequence-words-spec =
     tie.close
     (tie.spec
     sort-in-requires
-    bare-sort-requires
+    sort-tag-requires
     returns
     is-sequence-requires
     returns-2

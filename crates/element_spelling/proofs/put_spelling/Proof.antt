@@ -1,5 +1,5 @@
 -- By the kind of element: its word (held-one), or its head word and values (held-sequence).
-use mathlib.Core.Path.{sym, ap, _∙_}
+use mathlib.Core.Path.{sym}
 use Rattle.element_words.proofs.Words.{part-count}
 use Rattle.element_spelling.proofs.Steps.{fits-as, held-one, held-sequence}
 use borrow.Author.Needs.{needs}
@@ -44,7 +44,8 @@ returns-2 c =
     let kept = c .before .before .before .before .before in
     let a = kept .before .before .before .before .before .before .args in
     fits-as
-    (sym (held-sequence (a .form) (a .e) _ _ _ _ _ (kept .before .before .before .e2 .given .1) (kept .kept .ensures) (kept .before .eight .ensures)))
+    (sym (held-sequence (a .form) (a .e) _ _ _ _ _ (kept .before .before .before .e2 .given .1) (kept .kept .ensures)
+    (kept .before .eight .ensures)))
     (c .before .before .put-sequence-words .ensures)
 
 pub put-spelling-spec : {M : Type 1} → statement M

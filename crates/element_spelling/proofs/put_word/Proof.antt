@@ -1,5 +1,5 @@
 -- All of the spelling where there is room for it, after CC if underlined (after-put, bare-put); else nothing (none-put, after-short, ..).
-use mathlib.Core.Path.{sym, ap, _∙_}
+use mathlib.Core.Path.{sym, _∙_}
 use native.Mathlib.Omega.{arith}
 use Rattle.spelling.specs.CanonicalSpelling.{octetsOf}
 use Rattle.element_spelling.specs.ElementOctets.{spellWord}
@@ -68,7 +68,8 @@ returns-4 c =
     let a = size .before .before .before .args in
     after-put (a .form) (a .w) _ _ (size .octets-in .ensures) (size .before .word-spelling .ensures)
     (sym (test .is-underlined .ensures) ∙ short .before .if3 .taken) (test .before .if2 .left)
-    (test .before .before .if1 .left) (short .if4 .left) (c .before .before .before .before .before .before .put .ensures) (c .before .before .put-octets .ensures)
+    (test .before .before .if1 .left) (short .if4 .left) (c .before .before .before .before .before .before .put .ensures)
+    (c .before .before .put-octets .ensures)
 
 returns-5 : tie.Need-returns-5
 returns-5 c =

@@ -3,7 +3,7 @@ use mathlib.Core.Path.{sym, ap, _∙_}
 use native.Mathlib.Omega.{arith}
 use borrow.Author.Tests.{not-true, not-false}
 use lib.ListN.{length}
-use Rattle.element_spelling.specs.ElementOctets.{bareSort}
+use Rattle.element_spelling.specs.ElementOctets.{sortTag}
 use Rattle.element_spelling.proofs.Steps.{no-start, not-spelt, is-spelt, sized}
 use Rattle.element_words.proofs.HeadWords.{head-enough, middle-small}
 use borrow.Author.Needs.{needs}
@@ -13,23 +13,24 @@ use Rattle.element_spelling.proofs.sequence_words_size.Tie as tie
 sort-in-requires : tie.Need-sort-in-requires
 sort-in-requires c κs = search needs
 
-bare-sort-requires : tie.Need-bare-sort-requires
-bare-sort-requires c κs = search needs
+sort-tag-requires : tie.Need-sort-tag-requires
+sort-tag-requires c κs = search needs
 
 returns : tie.Need-returns
 returns c =
     let at-sort-in = c .before .before in
     sym
-    (ap length (no-start _ _ _ (λ e. c .if1 .taken (c .before .bare-sort .ensures ∙ ap bareSort (at-sort-in .sort-in .ensures) ∙ e))))
+    (ap length (no-start _ _ _ (λ e. c .if1 .taken (c .before .sort-tag .ensures ∙ ap sortTag (at-sort-in .sort-in .ensures) ∙ e))))
 
 is-sequence-requires : tie.Need-is-sequence-requires
 is-sequence-requires c κs = search needs
 
 returns-2 : tie.Need-returns-2
 returns-2 c =
-    sym
-    (ap length (not-spelt _ _ _ (sym (c .before .before .before .bare-sort .ensures ∙ ap bareSort (c .before .before .before .before .sort-in .ensures)) ∙ c .before .before .if1 .left)
-    (sym (c .before .is-sequence .ensures) ∙ not-true _ (c .if2 .taken))))
+    let at-if1 = c .before .before in
+    let sort = at-if1 .before .sort-tag .ensures ∙ ap sortTag (at-if1 .before .before .sort-in .ensures) in
+    let no = sym (c .before .is-sequence .ensures) ∙ not-true _ (c .if2 .taken) in
+    sym (ap length (not-spelt _ _ _ (sym sort ∙ at-if1 .if1 .left) no))
 
 sub-middle : tie.Need-sub-middle
 sub-middle c =
@@ -50,15 +51,16 @@ sequence-size-requires c κs = search needs
 returns-3 : tie.Need-returns-3
 returns-3 c =
     let is = sym (c .before .before .is-sequence .ensures) ∙ not-false _ (c .before .if2 .left) in
-    c .sequence-size .ensures ∙ sized _ _ is ∙ sym
-    (ap length (is-spelt _ _ _ (sym (c .before .before .before .before .bare-sort .ensures ∙ ap bareSort (c .before .before .before .before .before .sort-in .ensures)) ∙ c .before .before .before .if1 .left) is))
+    let at-if1 = c .before .before .before in
+    let sort = at-if1 .before .sort-tag .ensures ∙ ap sortTag (at-if1 .before .before .sort-in .ensures) in
+    c .sequence-size .ensures ∙ sized _ _ is ∙ sym (ap length (is-spelt _ _ _ (sym sort ∙ at-if1 .if1 .left) is))
 
 pub sequence-words-size-spec : {M : Type 1} → statement M
 sequence-words-size-spec =
     tie.close
     (tie.spec
     sort-in-requires
-    bare-sort-requires
+    sort-tag-requires
     returns
     is-sequence-requires
     returns-2

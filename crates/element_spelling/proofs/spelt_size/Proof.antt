@@ -39,7 +39,8 @@ returns-2 c =
     let a = c .before .before .before .before .before .before .before .args in
     c .sequence-words-size .ensures
     ∙ sym
-    (ap length (held-sequence (a .form) (a .e) _ _ _ _ _ (c .before .before .before .before .before .e2 .given .1) (c .before .before .kept .ensures) (c .before .before .before .eight .ensures)))
+    (ap length (held-sequence (a .form) (a .e) _ _ _ _ _ (c .before .before .before .before .before .e2 .given .1)
+    (c .before .before .kept .ensures) (c .before .before .before .eight .ensures)))
 
 pub spelt-size-spec : {M : Type 1} → statement M
 spelt-size-spec =

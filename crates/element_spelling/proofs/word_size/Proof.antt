@@ -1,5 +1,5 @@
 -- No octets, or those of the spelling and one for CC (none-size, after-size, bare-size).
-use mathlib.Core.Path.{sym, ap, _∙_}
+use mathlib.Core.Path.{sym, _∙_}
 use native.Mathlib.Omega.{arith}
 use Rattle.element_spelling.proofs.Steps.{one-more, none-size, bare-size, after-size}
 use borrow.Author.Needs.{needs}

@@ -1,7 +1,8 @@
 -- By the range of the word and, for underlined characters and controls, by what the form has (word-character .. word-high).
 use mathlib.Core.Path.{sym, ap, _∙_}
-use Rattle.element_spelling.specs.ElementOctets.{bareSort}
-use Rattle.element_spelling.proofs.Steps.{word-character, word-underlined, word-no-underline, word-control, word-no-control, word-high}
+use Rattle.element_spelling.specs.ElementOctets.{sortTag}
+use Rattle.element_spelling.proofs.Steps.{word-character, word-underlined, word-no-underline, word-control, word-no-control}
+use Rattle.element_spelling.proofs.Steps.{word-high}
 use borrow.Author.Needs.{needs}
 use Rattle.element_spelling.proofs.word_spelling.Statement.{statement}
 use Rattle.element_spelling.proofs.word_spelling.Tie as tie
@@ -15,8 +16,8 @@ returns c = c .spell-in .ensures ∙ sym (word-character _ _ (c .before .if1 .ta
 sort-in-requires : tie.Need-sort-in-requires
 sort-in-requires c κs = search needs
 
-bare-sort-requires : tie.Need-bare-sort-requires
-bare-sort-requires c κs = search needs
+sort-tag-requires : tie.Need-sort-tag-requires
+sort-tag-requires c κs = search needs
 
 spell-in-requires-2 : tie.Need-spell-in-requires-2
 spell-in-requires-2 c κs = search needs
@@ -25,13 +26,13 @@ returns-2 : tie.Need-returns-2
 returns-2 c =
     let test = c .before in
     let sort = test .before .before in
-    let has = sym (test .before .bare-sort .ensures ∙ ap bareSort (sort .sort-in .ensures)) ∙ test .if3 .taken in
+    let has = sym (test .before .sort-tag .ensures ∙ ap sortTag (sort .sort-in .ensures)) ∙ test .if3 .taken in
     c .spell-in2 .ensures ∙ sym (word-underlined _ _ (sort .before .before .if1 .left) (sort .before .if2 .taken) has)
 
 returns-3 : tie.Need-returns-3
 returns-3 c =
     let sort = c .before .before in
-    let is = c .before .bare-sort .ensures ∙ ap bareSort (sort .sort-in .ensures) in
+    let is = c .before .sort-tag .ensures ∙ ap sortTag (sort .sort-in .ensures) in
     sym (word-no-underline _ _ (sort .before .before .if1 .left) (sort .before .if2 .taken) (λ e. c .if3 .left (is ∙ e)))
 
 cast-o : tie.Need-cast-o
@@ -40,19 +41,19 @@ cast-o c = search needs
 sort-in-requires-2 : tie.Need-sort-in-requires-2
 sort-in-requires-2 c κs = search needs
 
-bare-sort-requires-2 : tie.Need-bare-sort-requires-2
-bare-sort-requires-2 c κs = search needs
+sort-tag-requires-2 : tie.Need-sort-tag-requires-2
+sort-tag-requires-2 c κs = search needs
 
 returns-4 : tie.Need-returns-4
 returns-4 c =
     let sort = c .before .before in
-    let has = sym (c .before .bare-sort2 .ensures ∙ ap bareSort (sort .sort-in2 .ensures)) ∙ c .if5 .taken in
+    let has = sym (c .before .sort-tag2 .ensures ∙ ap sortTag (sort .sort-in2 .ensures)) ∙ c .if5 .taken in
     sym (word-control _ _ (sort .before .before .if2 .left) (sort .before .if4 .taken) has)
 
 returns-5 : tie.Need-returns-5
 returns-5 c =
     let sort = c .before .before in
-    let is = c .before .bare-sort2 .ensures ∙ ap bareSort (sort .sort-in2 .ensures) in
+    let is = c .before .sort-tag2 .ensures ∙ ap sortTag (sort .sort-in2 .ensures) in
     sym (word-no-control _ _ (sort .before .before .if2 .left) (λ e. c .if5 .left (is ∙ e)))
 
 returns-6 : tie.Need-returns-6
@@ -65,13 +66,13 @@ word-spelling-spec =
     spell-in-requires
     returns
     sort-in-requires
-    bare-sort-requires
+    sort-tag-requires
     spell-in-requires-2
     returns-2
     returns-3
     cast-o
     sort-in-requires-2
-    bare-sort-requires-2
+    sort-tag-requires-2
     returns-4
     returns-5
     returns-6)

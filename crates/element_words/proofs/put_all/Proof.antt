@@ -34,8 +34,13 @@ put-values-requires : tie.Need-put-values-requires
 put-values-requires c κs =
     let at-put-one2 = c .before .before .before .before in
     let at-e2 = at-put-one2 .before .before .before in
-    omega
-    (arith, ap (λ (x : Element). length (wordsOf x)) (at-e2 .e2 .given .1), length-take (at-e2 .e2 .given .0 .1 .0) (listOf (at-e2 .e2 .given .0 .1 .1 .0)), c .before .kept .ensures, at-put-one2 .put-one2 .ensures .place)
+    omega (
+      arith,
+      ap (λ (x : Element). length (wordsOf x)) (at-e2 .e2 .given .1),
+      length-take (at-e2 .e2 .given .0 .1 .0) (listOf (at-e2 .e2 .given .0 .1 .1 .0)),
+      c .before .kept .ensures,
+      at-put-one2 .put-one2 .ensures .place,
+    )
 
 same-length : tie.Need-same-length
 same-length c = search needs

@@ -37,8 +37,11 @@ loop-less c = omega arith
 
 loop-again : tie.Need-loop-again Inv-loop μ-loop
 loop-again c =
-    let at-loop = c .before .before .before .before .before .before in
-    (omega arith, values-more (at-loop .before .before .args .v) (at-loop .loop .k) _ (omega arith) (at-loop .loop .inv .1) (c .before .before .put-one .ensures) (c .before .before .before .value-at .ensures))
+    let at-loop = c .before .before .before .before .before .before in (
+      omega arith,
+      values-more (at-loop .before .before .args .v) (at-loop .loop .k) _ (omega arith) (at-loop .loop .inv .1)
+          (c .before .before .put-one .ensures) (c .before .before .before .value-at .ensures),
+    )
 
 same-length : tie.Need-same-length Inv-loop μ-loop
 same-length c = put-length (c .before .loop .inv .1)
@@ -47,7 +50,8 @@ returns : tie.Need-returns Inv-loop μ-loop
 returns c =
     let at-loop = c .before in
     put-as
-    (ap (λ (k : ℕ). take k (listOf (at-loop .before .before .args .v))) (let e : at-loop .loop .k ≡ at-loop .before .before .args .n = omega arith in e))
+    (ap (λ (k : ℕ). take k (listOf (at-loop .before .before .args .v)))
+    (let e : at-loop .loop .k ≡ at-loop .before .before .args .n = omega arith in e))
     (at-loop .loop .inv .1)
 
 pub put-values-spec : {M : Type 1} → statement M

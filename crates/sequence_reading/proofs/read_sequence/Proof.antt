@@ -3,7 +3,8 @@ use Prim.Native.Nat.{_-_}
 use mathlib.Core.Path.{sym, _∙_}
 use mathlib.Core.Logic.{⊎-elim}
 use lib.ListN.{length}
-use Rattle.sequence_reading.proofs.Places.{none-left, no-sequence, Reached, reached-start, reached-more, reached-value, reached-last, reached-bad, reached-end}
+use Rattle.sequence_reading.proofs.Places.{none-left, no-sequence, Reached, reached-start, reached-more, reached-value, reached-last}
+use Rattle.sequence_reading.proofs.Places.{reached-bad, reached-end}
 use borrow.Author.Needs.{needs}
 use native.Mathlib.Omega.{arith}
 use Rattle.sequence_reading.proofs.read_sequence.Statement.{statement}

@@ -39,7 +39,8 @@ returns-8 c = search needs
 returns-9 : tie.Need-returns-9
 returns-9 c =
     let r = c .match .rest in
-    let four : 4 ≤ c .before .args .k = past _ 0 (omega arith) (r .0 .0 .0 .0 .0 .0 .0 .1) (r .0 .0 .0 .0 .0 .0 .1) (r .0 .0 .0 .0 .0 .1) (r .0 .0 .0 .0 .1) in
+    let four : 4 ≤ c .before .args .k =
+    past _ 0 (omega arith) (r .0 .0 .0 .0 .0 .0 .0 .1) (r .0 .0 .0 .0 .0 .0 .1) (r .0 .0 .0 .0 .0 .1) (r .0 .0 .0 .0 .1) in
     sym (List·getD-eq-default (listOf (c .before .args .v)) 0 (past _ 4 four (r .0 .0 .0 .1) (r .0 .0 .1) (r .0 .1) (r .1)))
 
 pub value-at-spec : {M : Type 1} → statement M

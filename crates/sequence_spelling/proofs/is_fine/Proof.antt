@@ -64,12 +64,16 @@ returns-8 c =
     sym
     (fine-test _ .1
     (record {
-      middle = ⊎-elim (λ w. inr (omega arith, omega arith)) (λ w. inl (omega arith)) (c .before .before .before .before .before .before .if1 .came);
+      middle =
+          ⊎-elim (λ w. inr (omega arith, omega arith)) (λ w. inl (omega arith))
+          (c .before .before .before .before .before .before .if1 .came);
       low = omega arith;
       high = omega arith;
       some = omega arith;
       eight = omega arith;
-      small = small-each (c .before .before .before .before .before .before .before .args .values .now) (λ j h. c .before .loop .inv .1 j (omega arith));
+      small =
+          small-each (c .before .before .before .before .before .before .before .args .values .now)
+          (λ j h. c .before .loop .inv .1 j (omega arith));
     }))
 
 pub is-fine-spec : {M : Type 1} → statement M

@@ -19,7 +19,8 @@ same-length c = search needs
 
 returns-2 : tie.Need-returns-2
 returns-2 c =
-    let is-one = middle-one (c .before .before .before .before .before .before .args .middle) (c .before .before .before .before .if1 .left) in
+    let is-one =
+    middle-one (c .before .before .before .before .before .before .args .middle) (c .before .before .before .before .if1 .left) in
     put-as (sym is-one) (put-one (omega (arith, ap length is-one)) (c .before .before .put .ensures))
 
 pub put-middle-spec : {M : Type 1} → statement M

@@ -45,7 +45,9 @@ loop-again c =
     let at-loop = c .before .before .before .before .before .before .before .before .before .before in
     let more = c .before .before .before .before .before .before .before .before .before .loop-test .taken in
     let room = partly-room _ _ _ _ _ _ (at-loop .loop .inv) more in
-    let p = put-one (omega (arith, room, put-length (at-loop .loop .inv .put))) (c .before .before .before .before .before .before .before .put .ensures) in
+    let p =
+    put-one (omega (arith, room, put-length (at-loop .loop .inv .put)))
+    (c .before .before .before .before .before .before .before .put .ensures) in
     partly-more _ _ _ _ _ _ (at-loop .loop .inv) more p (c .before .before .put-value .ensures)
 
 same-length : tie.Need-same-length Inv-loop μ-loop

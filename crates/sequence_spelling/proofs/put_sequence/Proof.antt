@@ -28,8 +28,10 @@ put-whole-requires : tie.Need-put-whole-requires
 put-whole-requires c κs =
     let a = c .before .before .before .before .before .before .before .args in
     let q : Sequence = record { middle = a .middle; last = a .last; values = a .values .now } in
-    let some : 0 < sizeOf q = omega (arith, c .before .before .before .before .sequence-size .ensures) in
-    (sized-fine (a .out .now) (a .at) q some .some, omega (arith, sized (a .out .now) (a .at) q some, c .before .before .before .before .sequence-size .ensures))
+    let some : 0 < sizeOf q = omega (arith, c .before .before .before .before .sequence-size .ensures) in (
+      sized-fine (a .out .now) (a .at) q some .some,
+      omega (arith, sized (a .out .now) (a .at) q some, c .before .before .before .before .sequence-size .ensures),
+    )
 
 same-length : tie.Need-same-length
 same-length c = search needs

@@ -42,9 +42,10 @@ same-length-2 c = search needs
 
 returns-3 : tie.Need-returns-3
 returns-3 c =
-    let d = digits-two (c .before .before .before .before .before .before .before .before .before .before .before .before .before .before .args .v) (omega arith) (omega arith) in
-    put-as (cc d)
-    (put-two (omega (arith, ap length d)) (c .before .before .before .before .before .before .before .put2 .ensures) (c .before .before .put3 .ensures))
+    let last = c .before .before in
+    let first = last .before .before .before .before .before in
+    let d = digits-two (first .before .before .before .before .before .before .before .args .v) (omega arith) (omega arith) in
+    put-as (cc d) (put-two (omega (arith, ap length d)) (first .put2 .ensures) (last .put3 .ensures))
 
 digit-requires-4 : tie.Need-digit-requires-4
 digit-requires-4 c κs = search needs
@@ -70,9 +71,10 @@ same-length-3 c = search needs
 returns-4 : tie.Need-returns-4
 returns-4 c =
     let last = c .before .before in
-    let d = digits-three (last .before .before .before .before .before .before .before .before .before .before .before .before .before .before .before .before .before .args .v) (omega arith) in
-    put-as (cc d)
-    (put-three (omega (arith, ap length d)) (last .before .before .before .before .before .before .before .before .before .before .put4 .ensures) (last .before .before .before .before .before .put5 .ensures) (last .put6 .ensures))
+    let second = last .before .before .before .before .before in
+    let first = second .before .before .before .before .before in
+    let d = digits-three (first .before .before .before .before .before .before .before .args .v) (omega arith) in
+    put-as (cc d) (put-three (omega (arith, ap length d)) (first .put4 .ensures) (second .put5 .ensures) (last .put6 .ensures))
 
 pub put-value-spec : {M : Type 1} → statement M
 put-value-spec =

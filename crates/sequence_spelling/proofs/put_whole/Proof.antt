@@ -19,17 +19,25 @@ put-value-requires c κs =
 
 put-rest-requires : tie.Need-put-rest-requires
 put-rest-requires c κs =
-    let a = c .before .before .before .before .before .before .before .before .before .before .before .before in
-    omega
-    (arith, rest-room (a .args .middle) (a .args .last) (a .args .values .now) (a .args .out .now) (a .args .at) (a .pre .0) (a .pre .1) (c .before .before .before .before .before .before .before .before .put .ensures) (c .before .before .before .put-value .ensures))
+    let value = c .before .before .before in
+    let first = value .before .before .before .before .before in
+    let a = first .before .before .before .before in
+    omega (
+      arith,
+      rest-room (a .args .middle) (a .args .last) (a .args .values .now) (a .args .out .now) (a .args .at) (a .pre .0) (a .pre .1)
+          (first .put .ensures) (value .put-value .ensures),
+    )
 
 put-middle-requires : tie.Need-put-middle-requires
 put-middle-requires c κs =
-    let a = c .before .before .before .before .before .before .before .before .before .before .before .before .before .before .before .before in
+    let others = c .before .before .before in
+    let value = others .before .before .before .before in
+    let first = value .before .before .before .before .before in
+    let a = first .before .before .before .before in
     omega (
       arith,
       middle-room (a .args .middle) (a .args .last) (a .args .values .now) (a .args .out .now) (a .args .at) (a .pre .0) (a .pre .1)
-          (c .before .before .before .before .before .before .before .before .before .before .before .before .put .ensures) (c .before .before .before .before .before .before .before .put-value .ensures) (c .before .before .before .put-rest .ensures),
+          (first .put .ensures) (value .put-value .ensures) (others .put-rest .ensures),
     )
 
 put-requires-2 : tie.Need-put-requires-2

@@ -22,8 +22,13 @@ add-n : tie.Need-add-n
 add-n c =
     let at-is-fine = c .before .before in
     let a = at-is-fine .before .before .args in
-    omega
-    (arith, c .values-size .ensures, rest-short (a .values .now), fine-test _ .0 (sym (at-is-fine .is-fine .ensures) ∙ not-false _ (c .before .if1 .left)) .eight)
+    omega (
+      arith,
+      c .values-size .ensures,
+      rest-short (a .values .now),
+      fine-test _ .0
+          (sym (at-is-fine .is-fine .ensures) ∙ not-false _ (c .before .if1 .left)) .eight,
+    )
 
 returns-2 : tie.Need-returns-2
 returns-2 c =
@@ -37,8 +42,13 @@ add-result c =
     let at-if1 = c .before .before in
     let at-is-fine = at-if1 .before in
     let a = at-is-fine .before .before .args in
-    omega
-    (arith, c .before .values-size .ensures, rest-short (a .values .now), fine-test _ .0 (sym (at-is-fine .is-fine .ensures) ∙ not-false _ (at-if1 .if1 .left)) .eight)
+    omega (
+      arith,
+      c .before .values-size .ensures,
+      rest-short (a .values .now),
+      fine-test _ .0
+          (sym (at-is-fine .is-fine .ensures) ∙ not-false _ (at-if1 .if1 .left)) .eight,
+    )
 
 returns-3 : tie.Need-returns-3
 returns-3 c =

@@ -3,16 +3,17 @@
 use Prim.Native.Nat.{_-_}
 use mathlib.Core.Path.{refl, sym, _∙_}
 use native.Mathlib.Omega.{arith}
-use lib.ListN.{length}
+use lib.ListN.{length, drop}
 use borrow.Author.Needs.{needs}
 use Rattle.run.specs.Answers.{same}
 use Rattle.run.proofs.Loops.{Counted}
 use Rattle.run.proofs.SpeltLoops.{spelt-start, spelt-small, spelt-end, spelt-stop, spelt-ten, spelt-onward, spelt-turn}
 use Rattle.element_reading.proofs.Reader.{reads}
-use Rattle.text_reading.proofs.Steps.{here, step-refused}
+use Rattle.element_reading.specs.Reading.{headIn}
+use Rattle.text_reading.proofs.Steps.{Here, here, step-refused}
 use Rattle.element_spelling.specs.ElementOctets.{spellElement}
 use Rattle.text.specs.Outcomes.{respellHead}
-use Rattle.text.proofs.SpeltSizes.{spelt-short}
+use Rattle.element_spelling.proofs.SpeltSizes.{spelt-short}
 use Rattle.text.proofs.measure_convert.Statement.{statement}
 use Rattle.text.proofs.measure_convert.Tie as tie
 
@@ -21,6 +22,14 @@ Inv-loop source target codes text at₀ n₀ count₀ at n count = Counted (resp
 
 abbrev μ-loop : tie.MeasureT-loop
 μ-loop source target codes text at₀ n₀ count₀ at n count = length text - at
+
+-- the element that stands at a place
+found : (c : tie.After-step Inv-loop μ-loop) →
+    let at = c .before .before .before .before in
+    let a = at .before .before .args in
+    let x = c .step .given .0 in
+    Here (headIn (a .source) (drop (at .loop .at) (a .text .now))) (at .loop .at) (x .0) (x .1 .0)
+found c = here _ _ _ _ _ (sym (c .before .before .step-in .ensures) ∙ c .step .given .1)
 
 loop-holds : tie.Need-loop-holds Inv-loop μ-loop
 loop-holds c =
@@ -32,8 +41,8 @@ step-in-requires c κs = search needs
 enum-known-step : tie.Need-enum-known-step Inv-loop μ-loop
 enum-known-step c = search needs
 
-refusal-requires : tie.Need-refusal-requires Inv-loop μ-loop
-refusal-requires c κs = search needs
+step-answer-requires : tie.Need-step-answer-requires Inv-loop μ-loop
+step-answer-requires c κs = search needs
 
 returns : tie.Need-returns Inv-loop μ-loop
 returns c =
@@ -45,7 +54,7 @@ returns c =
     let h =
     step-refused (a .source) (a .text .now) _ _ (c .before .before .step-in .ensures) (c .before .match .keys2) (s3 .loop-test .taken) in
     let end = spelt-stop (reads (a .source)) (spellElement (a .target)) (spelt-short (a .target)) (a .text .now) (i .inv) (h .here) refl in
-    c .refusal .ensures ∙ h .answers _ ∙ end
+    c .step-answer .ensures ∙ h .answers _ ∙ end
 
 spelt-size-requires : tie.Need-spelt-size-requires Inv-loop μ-loop
 spelt-size-requires c κs = search needs
@@ -55,70 +64,54 @@ not-held-requires c κs = search needs
 
 returns-2 : tie.Need-returns-2 Inv-loop μ-loop
 returns-2 c =
-    let s4 = c .before .before .before .before in
-    let s6 = s4 .before .before in
-    let s8 = s6 .before .before in
-    let s10 = s8 .before .before in
-    let a = s10 .args in
-    let i = s8 .loop in
-    let h = here (a .source) (a .text .now) _ _ _ (sym (s6 .step-in .ensures) ∙ s4 .step .given .1) in
-    c .not-held .ensures ∙ spelt-ten (reads (a .source)) (spellElement (a .target)) (spelt-short (a .target)) (a .text .now) (i .inv)
-    (h .here) (c .before .before .spelt-size .ensures) (c .before .if1 .taken)
+    let told = c .before .before .before .before in
+    let at = told .before .before .before .before in
+    let a = at .before .before .args in
+    c .not-held .ensures
+    ∙ spelt-ten (reads (a .source)) (spellElement (a .target)) (spelt-short (a .target)) _ (at .loop .inv) (found told .here)
+    (c .before .before .spelt-size .ensures) (c .before .if1 .taken)
 
 add-n : tie.Need-add-n Inv-loop μ-loop
 add-n c =
-    let s7 = c .before .before .before .before .before .before .before in
-    let s9 = s7 .before .before in
-    let a = s9 .args in
-    omega (
-      arith,
-      spelt-small (reads (a .source)) (spellElement (a .target)) (spelt-short (a .target)) (a .text .now)
-          (s7 .loop .inv),
-      s9 .pre .1,
-    )
+    let at = c .before .before .before .before .before .before .before in
+    let start = at .before .before in
+    let a = start .args in
+    let small = spelt-small (reads (a .source)) (spellElement (a .target)) (spelt-short (a .target)) _ (at .loop .inv) in
+    omega (arith, small, start .pre .1)
 
 add-count : tie.Need-add-count Inv-loop μ-loop
 add-count c =
-    let s3 = c .before .before .before in
-    let s7 = s3 .before .before .before .before in
-    let s9 = s7 .before .before in
-    let a = s9 .args in
-    let small = spelt-small (reads (a .source)) (spellElement (a .target)) (spelt-short (a .target)) (a .text .now) (s7 .loop .inv) in
-    let e = s3 .step .given .0 .0 in
-    omega (arith, small, s9 .pre .1, spelt-short (a .target) e, c .before .spelt-size .ensures)
+    let told = c .before .before .before in
+    let at = told .before .before .before .before in
+    let start = at .before .before in
+    let a = start .args in
+    let small = spelt-small (reads (a .source)) (spellElement (a .target)) (spelt-short (a .target)) _ (at .loop .inv) in
+    omega (arith, small, start .pre .1, spelt-short (a .target) (told .step .given .0 .0), c .before .spelt-size .ensures)
 
 loop-less : tie.Need-loop-less Inv-loop μ-loop
 loop-less c =
-    let s3 = c .before .before .before in
-    let s5 = s3 .before .before in
-    let s7 = s5 .before .before in
-    let s9 = s7 .before .before in
-    let a = s9 .args in
-    let i = s7 .loop in
-    let h = here (a .source) (a .text .now) _ _ _ (sym (s5 .step-in .ensures) ∙ s3 .step .given .1) in
+    let told = c .before .before .before in
+    let at = told .before .before .before .before in
+    let a = at .before .before .args in
+    let h = found told in
     let on =
-    spelt-onward (reads (a .source)) (spellElement (a .target)) (spelt-short (a .target)) (a .text .now) (i .inv) (h .here)
+    spelt-onward (reads (a .source)) (spellElement (a .target)) (spelt-short (a .target)) _ (at .loop .inv) (h .here)
     (c .before .spelt-size .ensures) (c .if1 .left) in
     omega (arith, on, h .onward)
 
 loop-again : tie.Need-loop-again Inv-loop μ-loop
 loop-again c =
-    let s3 = c .before .before .before in
-    let s5 = s3 .before .before in
-    let s7 = s5 .before .before in
-    let s9 = s7 .before .before in
-    let a = s9 .args in
-    let i = s7 .loop in
-    let h = here (a .source) (a .text .now) _ _ _ (sym (s5 .step-in .ensures) ∙ s3 .step .given .1) in
-    spelt-turn (reads (a .source)) (spellElement (a .target)) (spelt-short (a .target)) (a .text .now) (i .inv) (h .here)
+    let told = c .before .before .before in
+    let at = told .before .before .before .before in
+    let a = at .before .before .args in
+    let h = found told in
+    spelt-turn (reads (a .source)) (spellElement (a .target)) (spelt-short (a .target)) _ (at .loop .inv) (h .here)
     (c .before .spelt-size .ensures) (h .onward) (c .if1 .left)
 
 returns-3 : tie.Need-returns-3 Inv-loop μ-loop
 returns-3 c =
-    let s3 = c .before .before .before in
-    let a = s3 .args in
-    spelt-end (reads (a .source)) (spellElement (a .target)) (spelt-short (a .target)) (a .text .now) (c .before .loop .inv)
-    (c .loop-test .left)
+    let a = c .before .before .before .args in
+    spelt-end (reads (a .source)) (spellElement (a .target)) (spelt-short (a .target)) _ (c .before .loop .inv) (c .loop-test .left)
 
 pub measure-convert-spec : {M : Type 1} → statement M
 measure-convert-spec =
@@ -129,7 +122,7 @@ measure-convert-spec =
     loop-holds
     step-in-requires
     enum-known-step
-    refusal-requires
+    step-answer-requires
     returns
     spelt-size-requires
     not-held-requires

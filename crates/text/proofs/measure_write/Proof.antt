@@ -3,14 +3,16 @@
 use Prim.Native.Nat.{_-_}
 use mathlib.Core.Path.{refl, sym, _∙_}
 use native.Mathlib.Omega.{arith}
-use lib.ListN.{length}
+use lib.ListN.{length, drop}
 use borrow.Author.Needs.{needs}
 use Rattle.run.specs.Answers.{same}
 use Rattle.run.proofs.Loops.{Counted}
 use Rattle.run.proofs.SpeltLoops.{spelt-start, spelt-small, spelt-end, spelt-stop, spelt-ten, spelt-onward, spelt-turn}
+use Rattle.element_words.specs.Words.{wordHead}
 use Rattle.element_words.proofs.Words.{words-read}
+use Rattle.text_reading.proofs.Steps.{Here}
 use Rattle.element_spelling.specs.ElementOctets.{spellElement, spellHead}
-use Rattle.text.proofs.SpeltSizes.{spelt-short}
+use Rattle.element_spelling.proofs.SpeltSizes.{spelt-short}
 use Rattle.text.proofs.Places.{word-here, no-word-here}
 use Rattle.text.proofs.measure_write.Statement.{statement}
 use Rattle.text.proofs.measure_write.Tie as tie
@@ -20,6 +22,14 @@ Inv-loop form words at₀ n₀ count₀ at n count = Counted (spellHead form) sa
 
 abbrev μ-loop : tie.MeasureT-loop
 μ-loop form words at₀ n₀ count₀ at n count = length words - at
+
+-- the element that the words at a place are
+word : (c : tie.After-meant Inv-loop μ-loop) →
+    let at = c .before .before .before .before in
+    let words = at .before .before .args .words .now in
+    let x = c .meant .given .0 in
+    Here (wordHead (drop (at .loop .at) words)) (at .loop .at) (x .0) (x .1 .0)
+word c = word-here _ _ _ _ (sym (c .before .before .element-of .ensures) ∙ c .meant .given .1)
 
 loop-holds : tie.Need-loop-holds Inv-loop μ-loop
 loop-holds c = let a = c .before .args in spelt-start words-read (spellElement (a .form)) (spelt-short (a .form)) (a .words .now)
@@ -51,63 +61,53 @@ not-held-requires-2 c κs = search needs
 
 returns-2 : tie.Need-returns-2 Inv-loop μ-loop
 returns-2 c =
-    let s4 = c .before .before .before .before in
-    let s6 = s4 .before .before in
-    let s8 = s6 .before .before in
-    let s10 = s8 .before .before in
-    let a = s10 .args in
-    let i = s8 .loop in
-    let h = word-here (a .words .now) _ _ _ (sym (s6 .element-of .ensures) ∙ s4 .meant .given .1) in
-    c .not-held2 .ensures ∙ spelt-ten words-read (spellElement (a .form)) (spelt-short (a .form)) (a .words .now) (i .inv) (h .here)
+    let told = c .before .before .before .before in
+    let at = told .before .before .before .before in
+    let a = at .before .before .args in
+    c .not-held2 .ensures
+    ∙ spelt-ten words-read (spellElement (a .form)) (spelt-short (a .form)) _ (at .loop .inv) (word told .here)
     (c .before .before .spelt-size .ensures) (c .before .if1 .taken)
 
 add-n : tie.Need-add-n Inv-loop μ-loop
 add-n c =
-    let s7 = c .before .before .before .before .before .before .before in
-    let s9 = s7 .before .before in
-    let a = s9 .args in
-    omega (arith, spelt-small words-read (spellElement (a .form)) (spelt-short (a .form)) (a .words .now) (s7 .loop .inv), s9 .pre)
+    let at = c .before .before .before .before .before .before .before in
+    let start = at .before .before in
+    let a = start .args in
+    omega (arith, spelt-small words-read (spellElement (a .form)) (spelt-short (a .form)) _ (at .loop .inv), start .pre)
 
 add-count : tie.Need-add-count Inv-loop μ-loop
 add-count c =
-    let s3 = c .before .before .before in
-    let s7 = s3 .before .before .before .before in
-    let s9 = s7 .before .before in
-    let a = s9 .args in
-    let small = spelt-small words-read (spellElement (a .form)) (spelt-short (a .form)) (a .words .now) (s7 .loop .inv) in
-    let e = s3 .meant .given .0 .0 in
-    omega (arith, small, s9 .pre, spelt-short (a .form) e, c .before .spelt-size .ensures)
+    let told = c .before .before .before in
+    let at = told .before .before .before .before in
+    let start = at .before .before in
+    let a = start .args in
+    let small = spelt-small words-read (spellElement (a .form)) (spelt-short (a .form)) _ (at .loop .inv) in
+    omega (arith, small, start .pre, spelt-short (a .form) (told .meant .given .0 .0), c .before .spelt-size .ensures)
 
 loop-less : tie.Need-loop-less Inv-loop μ-loop
 loop-less c =
-    let s3 = c .before .before .before in
-    let s5 = s3 .before .before in
-    let s7 = s5 .before .before in
-    let s9 = s7 .before .before in
-    let a = s9 .args in
-    let i = s7 .loop in
-    let h = word-here (a .words .now) _ _ _ (sym (s5 .element-of .ensures) ∙ s3 .meant .given .1) in
+    let told = c .before .before .before in
+    let at = told .before .before .before .before in
+    let a = at .before .before .args in
+    let h = word told in
     let on =
-    spelt-onward words-read (spellElement (a .form)) (spelt-short (a .form)) (a .words .now) (i .inv) (h .here)
-    (c .before .spelt-size .ensures) (c .if1 .left) in
+    spelt-onward words-read (spellElement (a .form)) (spelt-short (a .form)) _ (at .loop .inv) (h .here) (c .before .spelt-size .ensures)
+    (c .if1 .left) in
     omega (arith, on, h .onward)
 
 loop-again : tie.Need-loop-again Inv-loop μ-loop
 loop-again c =
-    let s3 = c .before .before .before in
-    let s5 = s3 .before .before in
-    let s7 = s5 .before .before in
-    let s9 = s7 .before .before in
-    let a = s9 .args in
-    let i = s7 .loop in
-    let h = word-here (a .words .now) _ _ _ (sym (s5 .element-of .ensures) ∙ s3 .meant .given .1) in
-    spelt-turn words-read (spellElement (a .form)) (spelt-short (a .form)) (a .words .now) (i .inv) (h .here)
-    (c .before .spelt-size .ensures) (h .onward) (c .if1 .left)
+    let told = c .before .before .before in
+    let at = told .before .before .before .before in
+    let a = at .before .before .args in
+    let h = word told in
+    spelt-turn words-read (spellElement (a .form)) (spelt-short (a .form)) _ (at .loop .inv) (h .here) (c .before .spelt-size .ensures)
+    (h .onward) (c .if1 .left)
 
 returns-3 : tie.Need-returns-3 Inv-loop μ-loop
 returns-3 c =
     let a = c .before .before .before .args in
-    spelt-end words-read (spellElement (a .form)) (spelt-short (a .form)) (a .words .now) (c .before .loop .inv) (c .loop-test .left)
+    spelt-end words-read (spellElement (a .form)) (spelt-short (a .form)) _ (c .before .loop .inv) (c .loop-test .left)
 
 pub measure-write-spec : {M : Type 1} → statement M
 measure-write-spec =

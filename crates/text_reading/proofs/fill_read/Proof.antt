@@ -3,15 +3,15 @@
 use Prim.Native.Nat.{_+_, _-_, _<_}
 use mathlib.Core.Path.{sym, _∙_}
 use native.Mathlib.Omega.{arith}
-use lib.ListN.{length, set}
+use lib.ListN.{length, drop, set}
 use borrow.Author.Needs.{needs}
-use Rattle.run.proofs.Loops.{Filled, fill-start, fill-length, fill-small, fill-onward, fill-room, fill-turn, fill-end}
-use Rattle.run.proofs.Puts.{put-fits}
+use Rattle.run.proofs.Loops.{Filled, fill-start, fill-small, fill-onward, fill-room, fill-turn, fill-end}
+use Rattle.run.proofs.Puts.{put-length, put-fits}
 use Rattle.element_words.specs.Words.{wordsOf}
 use Rattle.element_reading.specs.Reading.{headIn}
 use Rattle.element_reading.proofs.Reader.{reads}
-use Rattle.text_reading.proofs.Reading.{few-words}
-use Rattle.text_reading.proofs.Steps.{here, read-never}
+use Rattle.text_reading.proofs.ReadTexts.{few-words}
+use Rattle.text_reading.proofs.Steps.{Here, here, read-never}
 use Rattle.text_reading.proofs.RunsAndPairs.{room-for-run, filled-run, room-for-pair, filled-pair}
 use Rattle.text_reading.proofs.fill_read.Statement.{statement}
 use Rattle.text_reading.proofs.fill_read.Tie as tie
@@ -75,6 +75,15 @@ after-pair c =
     filled-pair (a .form) (a .text .now) (a .codes .now) (a .squares .now) (p .0) (a .words .now) (p .1) was _ (c .before .pair-at .ensures)
     (c .if3 .taken)
 
+-- the element that stands behind the run
+found : (c : tie.After-step Inv-loop μ-loop) →
+    let run = c .before .before .before .before .before .before .before in
+    let a = run .before .before .before .before .before .before .before .before .args in
+    let at = run .before .before .before .before .before .loop .at + run .before .before .put-run .result in
+    let x = c .step .given .0 in
+    Here (headIn (a .form) (drop at (a .text .now))) at (x .0) (x .1 .0)
+found c = here _ _ _ _ _ (sym (c .before .before .element-at .ensures) ∙ c .step .given .1)
+
 loop-holds : tie.Need-loop-holds Inv-loop μ-loop
 loop-holds c = let a = c .before .before .args in fill-start (reads (a .form)) (few-words (a .form)) (a .text .now) (a .words .now)
 
@@ -98,11 +107,7 @@ pair-at-requires : tie.Need-pair-at-requires Inv-loop μ-loop
 pair-at-requires c κs = search needs
 
 mul-words : tie.Need-mul-words Inv-loop μ-loop
-mul-words c =
-    let a = c .before .before .before .before .before .before .before .before .before .before .before .before .args in
-    let p = c .before .before .before .before .before .before .before .before .before .before .before .before .pre in
-    let was = after-run (c .before .before .before .before) in
-    search (needs, pair-room c, fill-length (reads (a .form)) (few-words (a .form)) (a .text .now) (a .words .now) (p .1) was)
+mul-words c = search (needs, pair-room c, put-length (after-run (c .before .before .before .before) .put))
 
 slice-write-words : tie.Need-slice-write-words Inv-loop μ-loop
 slice-write-words c = pair-room c
@@ -129,12 +134,7 @@ enum-known-step : tie.Need-enum-known-step Inv-loop μ-loop
 enum-known-step c = search needs
 
 same-length : tie.Need-same-length Inv-loop μ-loop
-same-length c =
-    let s6 = c .before .before .before .before .before .before in
-    let s14 = s6 .before .before .before .before .before .before .before .before in
-    let a = s14 .args in
-    let p = s14 .pre in
-    fill-length (reads (a .form)) (few-words (a .form)) (a .text .now) (a .words .now) (p .1) (after-run (s6))
+same-length c = put-length (after-run (c .before .before .before .before .before .before) .put)
 
 returns : tie.Need-returns Inv-loop μ-loop
 returns c =
@@ -152,29 +152,23 @@ put-words-requires c κs = search needs
 
 loop-less-2 : tie.Need-loop-less-2 Inv-loop μ-loop
 loop-less-2 c =
-    let s5 = c .before .before .before .before .before in
-    let s7 = s5 .before .before in
-    let s12 = s7 .before .before .before .before .before in
-    let s20 = s12 .before .before .before .before .before .before .before .before in
-    let a = s20 .args in
-    let p = s20 .pre in
-    let was = after-run (s12) in
-    let h = here (a .form) (a .text .now) _ _ _ (sym (s7 .element-at .ensures) ∙ s5 .step .given .1) in
-    omega (arith, fill-onward (reads (a .form)) (few-words (a .form)) (a .text .now) (a .words .now) (p .1) was (h .here), h .onward)
+    let told = c .before .before .before .before .before in
+    let run = told .before .before .before .before .before .before .before in
+    let start = run .before .before .before .before .before .before .before .before in
+    let f = start .args .form in
+    let h = found told in
+    omega (arith, fill-onward (reads f) (few-words f) _ _ (start .pre .1) (after-run run) (h .here), h .onward)
 
 loop-again-2 : tie.Need-loop-again-2 Inv-loop μ-loop
 loop-again-2 c =
-    let s5 = c .before .before .before .before .before in
-    let s7 = s5 .before .before in
-    let s12 = s7 .before .before .before .before .before in
-    let s20 = s12 .before .before .before .before .before .before .before .before in
-    let a = s20 .args in
-    let p = s20 .pre in
-    let was = after-run (s12) in
-    let h = here (a .form) (a .text .now) _ _ _ (sym (s7 .element-at .ensures) ∙ s5 .step .given .1) in
-    let room = fill-room (reads (a .form)) (few-words (a .form)) (a .text .now) (a .words .now) (p .1) was (h .here) in
-    let put = put-fits (wordsOf (s5 .step .given .0 .0)) room (c .before .before .put-words .ensures) in
-    fill-turn (reads (a .form)) (few-words (a .form)) (a .text .now) (a .words .now) (p .1) was (h .here) (h .onward) put
+    let told = c .before .before .before .before .before in
+    let run = told .before .before .before .before .before .before .before in
+    let start = run .before .before .before .before .before .before .before .before in
+    let f = start .args .form in
+    let h = found told in
+    let room = fill-room (reads f) (few-words f) _ _ (start .pre .1) (after-run run) (h .here) in
+    let put = put-fits (wordsOf (told .step .given .0 .0)) room (c .before .before .put-words .ensures) in
+    fill-turn (reads f) (few-words f) _ _ (start .pre .1) (after-run run) (h .here) (h .onward) put
 
 loop-less-3 : tie.Need-loop-less-3 Inv-loop μ-loop
 loop-less-3 c = search needs
@@ -189,10 +183,7 @@ loop-again-4 : tie.Need-loop-again-4 Inv-loop μ-loop
 loop-again-4 c = after-run (c .before)
 
 same-length-2 : tie.Need-same-length-2 Inv-loop μ-loop
-same-length-2 c =
-    let a = c .before .before .before .before .args in
-    let p = c .before .before .before .before .pre in
-    fill-length (reads (a .form)) (few-words (a .form)) (a .text .now) (a .words .now) (p .1) (c .before .loop .inv)
+same-length-2 c = put-length (c .before .loop .inv .put)
 
 returns-2 : tie.Need-returns-2 Inv-loop μ-loop
 returns-2 c =

@@ -1,11 +1,17 @@
 -- No form is 11 (no-form), over the limit is 12 (over), else what is counted, for which the room is enough (enough).
-use mathlib.Core.Path.{sym, _∙_}
-use Rattle.text_reading.specs.Answers.{readAnswer}
-use Rattle.text_reading.proofs.Reading.{enough}
+use mathlib.Core.Path.{_≡_, sym, _∙_}
+use Rattle.sorts.specs.declared.FormFound.the-variants.{Is}
+use Rattle.sorts.specs.Forms.{formOf}
+use Rattle.text_reading.specs.ReadAnswers.{readAnswer}
+use Rattle.text_reading.proofs.ReadTexts.{enough}
 use Rattle.text_reading.proofs.Edges.{no-form, a-form, over, within}
 use borrow.Author.Needs.{needs}
 use Rattle.text_reading.proofs.measure.Statement.{statement}
 use Rattle.text_reading.proofs.measure.Tie as tie
+
+-- the form is known
+is-form : (c : tie.After-found) → formOf (c .before .before .before .before .args .form) ≡ Is (c .found .given .0 .0)
+is-form c = sym (c .before .before .form-of .ensures) ∙ c .found .given .1
 
 form-of-requires : tie.Need-form-of-requires
 form-of-requires c κs = search needs
@@ -29,9 +35,9 @@ bare-answer-requires-2 c κs = search needs
 returns-2 : tie.Need-returns-2
 unfolding readAnswer
 returns-2 c =
-    let a = c .before .before .before .before .before .before .before .args in
-    let q = sym (c .before .before .before .before .before .form-of .ensures) ∙ c .before .before .before .found .given .1 in
-    c .bare-answer2 .ensures ∙ a-form _ _ _ _ _ q (over (a .text .now) _ _ (c .before .if1 .taken))
+    let told = c .before .before .before in
+    let a = told .before .before .before .before .args in
+    c .bare-answer2 .ensures ∙ a-form _ _ _ _ _ (is-form told) (over (a .text .now) _ _ (c .before .if1 .taken))
 
 measure-in-requires : tie.Need-measure-in-requires
 measure-in-requires c κs = search needs
@@ -39,9 +45,9 @@ measure-in-requires c κs = search needs
 returns-3 : tie.Need-returns-3
 unfolding readAnswer
 returns-3 c =
-    let a = c .before .before .before .before .before .before .before .args in
-    let q = sym (c .before .before .before .before .before .form-of .ensures) ∙ c .before .before .before .found .given .1 in
-    a-form _ _ _ _ _ q (c .measure-in .ensures ∙ enough _ (a .text .now) ∙ within (a .text .now) _ _ (c .before .if1 .left))
+    let told = c .before .before .before in
+    let a = told .before .before .before .before .args in
+    a-form _ _ _ _ _ (is-form told) (c .measure-in .ensures ∙ enough _ (a .text .now) ∙ within (a .text .now) _ _ (c .before .if1 .left))
 
 pub measure-spec : {M : Type 1} → statement M
 measure-spec =

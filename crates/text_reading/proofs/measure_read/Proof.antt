@@ -10,7 +10,7 @@ use Rattle.element_words.specs.Words.{wordsOf}
 use Rattle.element_reading.specs.Reading.{headIn}
 use Rattle.element_reading.proofs.Reader.{reads}
 use Rattle.element_words.proofs.Words.{words-short}
-use Rattle.text_reading.proofs.Reading.{few-words}
+use Rattle.text_reading.proofs.ReadTexts.{few-words}
 use Rattle.text_reading.proofs.Steps.{Here, here, read-stop}
 use Rattle.text_reading.proofs.RunsAndPairs.{behind-run, behind-pair}
 use Rattle.text_reading.proofs.measure_read.Statement.{statement}
@@ -125,8 +125,8 @@ element-at-requires c κs = search needs
 enum-known-step : tie.Need-enum-known-step Inv-loop μ-loop
 enum-known-step c = search needs
 
-refusal-requires : tie.Need-refusal-requires Inv-loop μ-loop
-refusal-requires c κs = search needs
+step-answer-requires : tie.Need-step-answer-requires Inv-loop μ-loop
+step-answer-requires c κs = search needs
 
 returns : tie.Need-returns Inv-loop μ-loop
 returns c =
@@ -136,7 +136,7 @@ returns c =
     let a = s11 .args in
     let was = after-run (s7) in
     let x = c .before .before .element-at in
-    c .refusal .ensures ∙ read-stop (a .form) (a .text .now) _ was (x .ensures) (c .before .match .keys2) (s5 .if2 .taken)
+    c .step-answer .ensures ∙ read-stop (a .form) (a .text .now) _ was (x .ensures) (c .before .match .keys2) (s5 .if2 .taken)
 
 add-n-3 : tie.Need-add-n-3 Inv-loop μ-loop
 add-n-3 c =
@@ -204,7 +204,7 @@ measure-read-spec =
     loop-again
     element-at-requires
     enum-known-step
-    refusal-requires
+    step-answer-requires
     returns
     add-n-3
     words-in-requires

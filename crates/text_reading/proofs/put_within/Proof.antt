@@ -15,17 +15,14 @@ abbrev μ-loop : tie.MeasureT-loop
 μ-loop codes text at words₀ o most i₀ words i = most - i
 
 -- the next character has room
-room : (c : tie.Else1 Inv-loop μ-loop)
-    → c .before .before .before .before .before .before .before .args .o + c .before .before .before .before .loop .i < length
-    (c .before .before .before .before .loop .words)
+room : (c : tie.Else1 Inv-loop μ-loop) →
+    let at = c .before .before .before .before in
+    at .before .before .before .args .o + at .loop .i < length (at .loop .words)
 room c =
-    let s3 = c .before .before .before in
-    let s4 = s3 .before in
-    let s7 = s4 .before .before .before in
-    let a = s7 .args in
-    let i = s4 .loop in
-    stored-room (a .codes .now) (a .text .now) (a .at) (a .most) (a .words .now) (a .o) (i .i) (i .words) (i .inv) (s3 .loop-test .taken)
-    (s7 .pre .0) _ (c .before .code-in .ensures) (c .if1 .left) (s7 .pre .1)
+    let test = c .before .before .before in
+    let at = test .before in
+    let p = at .before .before .before .pre in
+    stored-room _ _ _ _ _ _ _ _ (at .loop .inv) (test .loop-test .taken) (p .0) _ (c .before .code-in .ensures) (c .if1 .left) (p .1)
 
 loop-holds : tie.Need-loop-holds Inv-loop μ-loop
 loop-holds c = stored-start _ _ _ _ _ _
@@ -40,29 +37,20 @@ code-in-requires : tie.Need-code-in-requires Inv-loop μ-loop
 code-in-requires c κs = search needs
 
 same-length : tie.Need-same-length Inv-loop μ-loop
-same-length c =
-    let a = c .before .before .before .before .before .before .before .args in
-    let i = c .before .before .before .before .loop in
-    stored-length (a .codes .now) (a .text .now) (a .at) (a .most) (a .words .now) (a .o) (i .i) (i .words) (i .inv)
+same-length c = stored-length _ _ _ _ _ _ _ _ (c .before .before .before .before .loop .inv)
 
 returns : tie.Need-returns Inv-loop μ-loop
 returns c =
-    let s3 = c .before .before .before in
-    let s4 = s3 .before in
-    let s7 = s4 .before .before .before in
-    let a = s7 .args in
-    let i = s4 .loop in
-    stored-stop (a .codes .now) (a .text .now) (a .at) (a .most) (a .words .now) (a .o) (i .i) (i .words) (i .inv) (s3 .loop-test .taken)
-    (s7 .pre .0) _ (c .before .code-in .ensures) (c .if1 .taken)
+    let test = c .before .before .before in
+    let at = test .before in
+    let p = at .before .before .before .pre in
+    stored-stop _ _ _ _ _ _ _ _ (at .loop .inv) (test .loop-test .taken) (p .0) _ (c .before .code-in .ensures) (c .if1 .taken)
 
 add-words : tie.Need-add-words Inv-loop μ-loop
 add-words c = omega (arith, room c)
 
 mul-words : tie.Need-mul-words Inv-loop μ-loop
-mul-words c =
-    let a = c .before .before .before .before .before .before .before .args in
-    let i = c .before .before .before .before .loop in
-    search (needs, room c, stored-length (a .codes .now) (a .text .now) (a .at) (a .most) (a .words .now) (a .o) (i .i) (i .words) (i .inv))
+mul-words c = search (needs, room c, stored-length _ _ _ _ _ _ _ _ (c .before .before .before .before .loop .inv))
 
 slice-write-words : tie.Need-slice-write-words Inv-loop μ-loop
 slice-write-words c = room c
@@ -75,25 +63,16 @@ loop-less c = search needs
 
 loop-again : tie.Need-loop-again Inv-loop μ-loop
 loop-again c =
-    let s3 = c .before .before .before in
-    let s4 = s3 .before in
-    let s7 = s4 .before .before .before in
-    let a = s7 .args in
-    let i = s4 .loop in
-    stored-more (a .codes .now) (a .text .now) (a .at) (a .most) (a .words .now) (a .o) (i .i) (i .words) (i .inv) (s3 .loop-test .taken)
-    (s7 .pre .0) _ (c .before .code-in .ensures) (c .if1 .left)
+    let test = c .before .before .before in
+    let at = test .before in
+    let p = at .before .before .before .pre in
+    stored-more _ _ _ _ _ _ _ _ (at .loop .inv) (test .loop-test .taken) (p .0) _ (c .before .code-in .ensures) (c .if1 .left)
 
 same-length-2 : tie.Need-same-length-2 Inv-loop μ-loop
-same-length-2 c =
-    let a = c .before .before .before .before .args in
-    let i = c .before .loop in
-    stored-length (a .codes .now) (a .text .now) (a .at) (a .most) (a .words .now) (a .o) (i .i) (i .words) (i .inv)
+same-length-2 c = stored-length _ _ _ _ _ _ _ _ (c .before .loop .inv)
 
 returns-2 : tie.Need-returns-2 Inv-loop μ-loop
-returns-2 c =
-    let a = c .before .before .before .before .args in
-    let i = c .before .loop in
-    stored-end (a .codes .now) (a .text .now) (a .at) (a .most) (a .words .now) (a .o) (i .i) (i .words) (i .inv) (c .loop-test .left)
+returns-2 c = stored-end _ _ _ _ _ _ _ _ (c .before .loop .inv) (c .loop-test .left)
 
 pub put-within-spec : {M : Type 1} → statement M
 put-within-spec =

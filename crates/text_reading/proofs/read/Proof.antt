@@ -1,10 +1,16 @@
--- No form is 11 (no-form), over the limit is 12 (over), else what reading in the form promises (within).
-use mathlib.Core.Path.{sym, _∙_}
-use Rattle.text_reading.specs.Answers.{readAnswer, readWords}
-use Rattle.text_reading.proofs.Edges.{no-form, a-form, over, within}
+-- No form is 11 (asked-none), over the limit is 12 (asked-over), else what reading in the form promises (asked-within).
+use mathlib.Core.Path.{_≡_, sym, _∙_}
+use Rattle.sorts.specs.declared.FormFound.the-variants.{Is}
+use Rattle.sorts.specs.Forms.{formOf}
+use Rattle.text_reading.specs.ReadAnswers.{readAnswer, readWords}
+use Rattle.text_reading.proofs.Edges.{asked-none, asked-over, asked-within}
 use borrow.Author.Needs.{needs}
 use Rattle.text_reading.proofs.read.Statement.{statement}
 use Rattle.text_reading.proofs.read.Tie as tie
+
+-- the form is known
+is-form : (c : tie.After-found) → formOf (c .before .before .before .before .before .args .form) ≡ Is (c .found .given .0 .0)
+is-form c = sym (c .before .before .form-of .ensures) ∙ c .found .given .1
 
 form-of-requires : tie.Need-form-of-requires
 form-of-requires c κs = search needs
@@ -21,8 +27,9 @@ bare-answer-requires c κs = search needs
 returns : tie.Need-returns
 unfolding readAnswer readWords
 returns c =
-    let q = sym (c .before .before .before .form-of .ensures) ∙ c .before .enum-told .given .1 in
-    (c .bare-answer .ensures ∙ no-form _ _ _ q, no-form _ _ _ q)
+    let form = c .before .before .before in
+    let a = form .before .before .before .args in
+    asked-none _ (a .text .now) _ _ _ (c .bare-answer .ensures) (sym (form .form-of .ensures) ∙ c .before .enum-told .given .1)
 
 bare-answer-requires-2 : tie.Need-bare-answer-requires-2
 bare-answer-requires-2 c κs = search needs
@@ -30,10 +37,9 @@ bare-answer-requires-2 c κs = search needs
 returns-2 : tie.Need-returns-2
 unfolding readAnswer readWords
 returns-2 c =
-    let a = c .before .before .before .before .before .before .before .before .args in
-    let q = sym (c .before .before .before .before .before .form-of .ensures) ∙ c .before .before .before .found .given .1 in
-    let h = c .before .if1 .taken in
-    (c .bare-answer2 .ensures ∙ a-form _ _ _ _ _ q (over (a .text .now) _ _ h), a-form _ _ _ _ _ q (over (a .text .now) _ _ h))
+    let told = c .before .before .before in
+    let a = told .before .before .before .before .before .args in
+    asked-over _ (a .text .now) _ _ _ (c .bare-answer2 .ensures) (is-form told) (c .before .if1 .taken)
 
 read-in-requires : tie.Need-read-in-requires
 read-in-requires c κs = search needs
@@ -44,15 +50,10 @@ same-length c = search needs
 returns-3 : tie.Need-returns-3
 unfolding readAnswer readWords
 returns-3 c =
-    let s4 = c .before .before .before .before in
-    let s6 = s4 .before .before in
-    let s8 = s6 .before .before in
-    let s11 = s8 .before .before .before in
-    let a = s11 .args in
-    let q = sym (s8 .form-of .ensures) ∙ s6 .found .given .1 in
-    let h = s4 .if1 .left in
-    let e = c .before .before .read-in .ensures in
-    (a-form _ _ _ _ _ q (e .0 ∙ within (a .text .now) _ _ h), a-form _ _ _ _ _ q (e .1 ∙ within (a .text .now) _ _ h))
+    let test = c .before .before .before .before in
+    let told = test .before .before in
+    let a = told .before .before .before .before .before .args in
+    asked-within _ (a .text .now) _ _ _ (c .before .before .read-in .ensures) (is-form told) (test .if1 .left)
 
 pub read-spec : {M : Type 1} → statement M
 read-spec =

@@ -1,6 +1,6 @@
 -- No form is 11 (no-form), over the limit is 12 (over), else the element's own step (within).
 use mathlib.Core.Path.{sym, _∙_}
-use Rattle.text_reading.specs.Answers.{loneStep}
+use Rattle.text_reading.specs.ReadAnswers.{loneStep}
 use Rattle.text_reading.proofs.Edges.{no-form, a-form, over, within}
 use borrow.Author.Needs.{needs}
 use Rattle.text_reading.proofs.read_element.Statement.{statement}

@@ -3,7 +3,7 @@ use mathlib.Core.Path.{_∙_}
 use Rattle.run.proofs.Rooms.{numbered, refuses, short, roomy}
 use Rattle.element_words.specs.Words.{wordsOf}
 use Rattle.element_reading.proofs.Reader.{reads}
-use Rattle.text_reading.specs.Answers.{readIn}
+use Rattle.text_reading.specs.ReadAnswers.{readIn}
 use borrow.Author.Needs.{needs}
 use Rattle.text_reading.proofs.read_in.Statement.{statement}
 use Rattle.text_reading.proofs.read_in.Tie as tie

@@ -1,13 +1,13 @@
--- The loop knows how much of the run it has counted (Run): one octet more (run-more), or the run's end (run-stop, run-end).
+-- The loop knows how much of the run it has counted (RunSoFar): one octet more (run-more), or the run's end (run-stop, run-end).
 use Prim.Native.Nat.{_-_}
 use native.Mathlib.Omega.{arith}
 use borrow.Author.Needs.{needs}
-use Rattle.text_reading.proofs.RunsAndPairs.{Run, run-start, run-end, run-stop, run-more, run-size}
+use Rattle.text_reading.proofs.RunsAndPairs.{RunSoFar, run-start, run-end, run-stop, run-more, run-size}
 use Rattle.text_reading.proofs.run_within.Statement.{statement}
 use Rattle.text_reading.proofs.run_within.Tie as tie
 
 abbrev Inv-loop : tie.InvT-loop
-Inv-loop codes text at most i₀ i = Run codes text at most i
+Inv-loop codes text at most i₀ i = RunSoFar codes text at most i
 
 abbrev μ-loop : tie.MeasureT-loop
 μ-loop codes text at most i₀ i = most - i

@@ -4,7 +4,7 @@ use native.Mathlib.Omega.{arith}
 use lib.ListN.{length}
 use borrow.Author.Needs.{needs}
 use Rattle.run.proofs.Puts.{put-length}
-use Rattle.case_table.proofs.Standing.{right-header}
+use Rattle.case_table.proofs.PagePlaces.{right-header}
 use Rattle.tlx.proofs.Pages.{read-inside, read-small}
 use Rattle.tlx.proofs.Fills.{Filled, fill-start, fill-place, fill-small, fill-turn, fill-all}
 use Rattle.tlx.proofs.fill_pages.Statement.{statement}
@@ -17,7 +17,9 @@ abbrev μ-loop : tie.MeasureT-loop
 μ-loop form case pages words₀ start₀ page₀ o₀ words start page o = pages - page
 
 -- the page lies in the case
-inside : (c : tie.After-number-at Inv-loop μ-loop) → c .before .before .loop .start + c .number-at .result ≤ length (c .before .before .before .before .before .args .case .now)
+inside : (c : tie.After-number-at Inv-loop μ-loop) →
+    let at = c .before .before in
+    at .loop .start + c .number-at .result ≤ length (at .before .before .before .args .case .now)
 inside c = read-inside (c .before .before .loop .inv .read) (c .before .loop-test .taken) (c .number-at .ensures)
 
 -- the next words' place lies in the buffer
@@ -74,7 +76,8 @@ add-o c =
     let read = c .before .before .before in
     let num = read .before .before .before in
     let at = num .before .before in
-    omega (arith, fill-small (at .before .before .before .pre .1) (at .loop .inv) (num .before .loop-test .taken) (num .number-at .ensures) (read .read .ensures))
+    let room = at .before .before .before .pre .1 in
+    omega (arith, fill-small room (at .loop .inv) (num .before .loop-test .taken) (num .number-at .ensures) (read .read .ensures))
 
 add-page : tie.Need-add-page Inv-loop μ-loop
 add-page c = search needs
@@ -87,7 +90,8 @@ loop-again c =
     let read = c .before .before .before in
     let num = read .before .before .before in
     let at = num .before .before in
-    fill-turn (at .before .before .before .pre .1) (at .loop .inv) (num .before .loop-test .taken) (num .number-at .ensures) (read .read .ensures)
+    let room = at .before .before .before .pre .1 in
+    fill-turn room (at .loop .inv) (num .before .loop-test .taken) (num .number-at .ensures) (read .read .ensures)
 
 same-length : tie.Need-same-length Inv-loop μ-loop
 same-length c = put-length (c .before .loop .inv .put)

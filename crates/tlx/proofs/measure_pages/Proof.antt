@@ -1,8 +1,9 @@
--- `measure_pages` meets its contract: at each page those before it are counted (`Measured`), and a refused page is the case's answer (`measure-stop`).
+-- `measure_pages` meets its contract: at each page those before it are counted (`Measured`), and a refused page is the case's answer
+-- (`measure-stop`).
 use Prim.Native.Nat.{_+_, _-_}
 use native.Mathlib.Omega.{arith}
 use borrow.Author.Needs.{needs}
-use Rattle.case_table.proofs.Standing.{right-header}
+use Rattle.case_table.proofs.PagePlaces.{right-header}
 use Rattle.tlx.proofs.Pages.{Measured, measure-start, measured-small, measure-turn, measure-stop, measure-all, read-inside}
 use Rattle.tlx.proofs.measure_pages.Statement.{statement}
 use Rattle.tlx.proofs.measure_pages.Tie as tie
@@ -19,11 +20,13 @@ turned : (c : tie.Else1 Inv-loop μ-loop) →
     let num = m .before .before in
     let i = num .before .before .loop in
     let a = num .before .before .before .before .args in
-    Measured (a .case .now) (a .form) (a .pages) (i .start + num .number-at .result) (i .page + 1) (i .n + m .measure .result .element) (i .count + m .measure .result .count)
+    let r = m .measure .result in
+    Measured (a .case .now) (a .form) (a .pages) (i .start + num .number-at .result) (i .page + 1) (i .n + r .element) (i .count + r .count)
 turned c =
     let m = c .before .before in
     let num = m .before .before in
-    measure-turn (num .before .before .loop .inv) (num .before .loop-test .taken) (num .number-at .ensures) (m .measure .ensures) (c .if1 .left)
+    let was = num .before .before .loop .inv in
+    measure-turn was (num .before .loop-test .taken) (num .number-at .ensures) (m .measure .ensures) (c .if1 .left)
 
 mul-start : tie.Need-mul-start Inv-loop μ-loop
 mul-start c = omega (arith, right-header _ _ _ (c .before .pre) .few)
@@ -62,7 +65,8 @@ returns : tie.Need-returns Inv-loop μ-loop
 returns c =
     let m = c .before .before in
     let num = m .before .before in
-    measure-stop (num .before .before .loop .inv) (num .before .loop-test .taken) (num .number-at .ensures) (m .measure .ensures) (c .if1 .taken)
+    let was = num .before .before .loop .inv in
+    measure-stop was (num .before .loop-test .taken) (num .number-at .ensures) (m .measure .ensures) (c .if1 .taken)
 
 add-n : tie.Need-add-n Inv-loop μ-loop
 add-n c = omega (arith, measured-small (turned (c .before)))

@@ -6,7 +6,7 @@ use lib.ListN.{length}
 use borrow.Author.Needs.{needs}
 use Rattle.case_table.specs.declared.Header.the-variants.{Pages}
 use Rattle.case_table.specs.Check.{headerOf}
-use Rattle.case_table.proofs.Standing.{Right, right-header, totalBefore, summed-before, page-inside}
+use Rattle.case_table.proofs.PagePlaces.{Right, right-header, totalBefore, summed-before, page-inside}
 use Rattle.tlx.proofs.OnePage.{turned-page, no-page, the-page}
 use Rattle.tlx.proofs.page_elements.Statement.{statement}
 use Rattle.tlx.proofs.page_elements.Tie as tie
@@ -24,10 +24,14 @@ enum-known-header-2 : tie.Need-enum-known-header-2
 enum-known-header-2 c = search needs
 
 -- header and table are right
-the-header : (c : tie.After-known-told2) → headerOf (c .before .before .before .before .before .args .case .now) ≡ Pages (c .before .header2 .given .0 .0) (c .before .header2 .given .0 .1 .0)
+the-header : (c : tie.After-known-told2) →
+    let told = c .before .header2 .given .0 in
+    headerOf (c .before .before .before .before .before .args .case .now) ≡ Pages (told .0) (told .1 .0)
 the-header c = sym (c .before .before .before .header-of .ensures) ∙ c .before .header2 .given .1
 
-right : (c : tie.After-known-told2) → Right (c .before .before .before .before .before .args .case .now) (c .before .header2 .given .0 .0) (c .before .header2 .given .0 .1 .0)
+right : (c : tie.After-known-told2) →
+    let told = c .before .header2 .given .0 in
+    Right (c .before .before .before .before .before .args .case .now) (told .0) (told .1 .0)
 right c = right-header _ _ _ (the-header c)
 
 -- where the page begins
@@ -39,14 +43,17 @@ begins : (c : tie.After-total-of) →
 begins c =
     let k = c .before .before .before in
     let pages = k .before .header2 .given .0 .1 .0 in
-    let few : k .before .before .before .before .before .args .page ≤ 256 = omega (arith, right k .few, c .before .before .if1 .left) in
-    ap (λ (n : ℕ). 8 + 2 * pages + n) (summed-before (k .before .before .before .before .before .args .case .now) few (c .total-of .ensures .0))
+    let a = k .before .before .before .before .before .args in
+    let few : a .page ≤ 256 = omega (arith, right k .few, c .before .before .if1 .left) in
+    ap (λ (n : ℕ). 8 + 2 * pages + n) (summed-before (a .case .now) few (c .total-of .ensures .0))
 
 inside : (c : tie.After-number-at) →
     let k = c .before .before .before .before in
-    8 + 2 * k .before .header2 .given .0 .1 .0 + c .before .total-of .result + c .number-at .result ≤ length (k .before .before .before .before .before .args .case .now)
+    let a = k .before .before .before .before .before .args in
+    8 + 2 * k .before .header2 .given .0 .1 .0 + c .before .total-of .result + c .number-at .result ≤ length (a .case .now)
 inside c =
-    page-inside (right (c .before .before .before .before)) (c .before .before .before .if1 .left) (begins (c .before)) (c .number-at .ensures .0)
+    let few = c .before .before .before in
+    page-inside (right (few .before)) (few .if1 .left) (begins (c .before)) (c .number-at .ensures .0)
 
 returns : tie.Need-returns
 returns c = no-page _ _ _ _ (the-header (c .before)) (c .if1 .taken)
@@ -104,8 +111,9 @@ returns-2 c =
 returns-3 : tie.Need-returns-3
 returns-3 c =
     let num = c .before .before in
-    let told = num .before .before .before .before in
-    the-page _ _ _ _ (the-header told) _ _ (num .before .before .before .if1 .left) (begins (num .before)) (num .number-at .ensures .0) _ (c .measure .ensures)
+    let few = num .before .before .before in
+    the-page _ _ _ _ (the-header (few .before)) _ _ (few .if1 .left) (begins (num .before)) (num .number-at .ensures .0) _
+    (c .measure .ensures)
 
 pub page-elements-spec : {M : Type 1} → statement M
 page-elements-spec =

@@ -1,7 +1,7 @@
 -- `read_case` meets its contract: a refused header is the case's answer (`turned-answers`), and else the pages are read.
 use mathlib.Core.Path.{sym, ap, _∙_}
 use borrow.Author.Needs.{needs}
-use Rattle.tlx.specs.Reading.{beside}
+use Rattle.tlx.specs.CaseReading.{beside}
 use Rattle.tlx.proofs.Rooms.{turned-answers}
 use Rattle.tlx.proofs.read_case.Statement.{statement}
 use Rattle.tlx.proofs.read_case.Tie as tie

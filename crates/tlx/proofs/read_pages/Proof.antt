@@ -21,14 +21,16 @@ returns-2 c =
     let accepted = c .before .before .before in
     let measured = accepted .before .before .before in
     let start = measured .before .before .before in
-    short _ _ _ (start .pre) (start .args .words .now) _ (measured .measure-pages .ensures) (accepted .if1 .left) _ (c .short-room .ensures) (c .before .if2 .taken)
+    let m = measured .measure-pages .ensures in
+    short _ _ _ (start .pre) (start .args .words .now) _ m (accepted .if1 .left) _ (c .short-room .ensures) (c .before .if2 .taken)
 
 fill-pages-requires : tie.Need-fill-pages-requires
 fill-pages-requires c κs =
     let accepted = c .before .before .before in
     let measured = accepted .before .before .before in
     let start = measured .before .before .before in
-    (start .pre, roomy _ _ _ (start .pre) (start .args .words .now) _ (measured .measure-pages .ensures) (accepted .if1 .left) (c .before .if2 .left) .0)
+    let m = measured .measure-pages .ensures in
+    (start .pre, roomy _ _ _ (start .pre) (start .args .words .now) _ m (accepted .if1 .left) (c .before .if2 .left) .0)
 
 same-length : tie.Need-same-length
 same-length c = search needs
@@ -39,7 +41,9 @@ returns-3 c =
     let accepted = roomly .before .before in
     let measured = accepted .before .before .before in
     let start = measured .before .before .before in
-    (roomy _ _ _ (start .pre) (start .args .words .now) _ (measured .measure-pages .ensures) (accepted .if1 .left) (roomly .if2 .left) .1, c .before .before .fill-pages .ensures)
+    let m = measured .measure-pages .ensures in
+    let r = roomy _ _ _ (start .pre) (start .args .words .now) _ m (accepted .if1 .left) (roomly .if2 .left) in
+    (r .1, c .before .before .fill-pages .ensures)
 
 pub read-pages-spec : {M : Type 1} → statement M
 read-pages-spec =

@@ -1,4 +1,4 @@
--- Proved equal to document 01's table of numbers and its order of refusals (specs/Table): the answers of writing and of converting, and
+-- Proved equal to document 01's table of numbers and its order of refusals (WritingNumbers): the answers of writing and of converting, and
 -- what the lent buffer holds after.
 -- Assumes nothing.
 use Prim.Native.Nat.{ℕ}
@@ -7,7 +7,7 @@ use lib.ListN.{length}
 use Rattle.run.specs.declared.Answer.{Answer}
 use Rattle.run.specs.Answers.{bare, answerOf, writtenOf, same}
 use Rattle.sorts.specs.Forms.{formOf, inForm}
-use Rattle.text_reading.specs.Answers.{within-limit}
+use Rattle.text_reading.specs.ReadAnswers.{within-limit}
 use Rattle.text.specs.Outcomes.{writeIn, convertIn}
 
 -- ---- writing: 11, 12, 10, 9

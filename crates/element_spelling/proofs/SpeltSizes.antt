@@ -19,7 +19,7 @@ use Rattle.element_words.specs.declared.Element.{Element}
 use Rattle.element_words.specs.declared.Element.the-variants.{One, Sequence as SequenceOf}
 use Rattle.element_words.specs.Words.{isSequence}
 use Rattle.element_words.proofs.HeadWords.{sequence-fine}
-use Rattle.element_spelling.specs.ElementOctets.{CC, bareSort, afterCC, spellWord, spellSequenceWords, spellElement}
+use Rattle.element_spelling.specs.ElementOctets.{CC, sortTag, afterCC, spellWord, spellSequenceWords, spellElement}
 
 abbrev Short : List ℕ → Type 0
 Short s = length s ≤ 34
@@ -44,15 +44,15 @@ module _ (f : Form) where
   word-short w =
       pick-case Short (ltb w 0x1000000) _ _ (λ t. octets-short (spellIn f w))
       (λ a. pick-case Short (ltb w 0x2000000) _ _
-      (λ t. pick-case Short (eqb (bareSort (sortIn f CC)) 1) _ _
+      (λ t. pick-case Short (eqb (sortTag (sortIn f CC)) 1) _ _
       (λ t. after-few (octetsOf (spellIn f (w - 0x1000000))) (octets-few (spellIn f (w - 0x1000000)))) (λ t. lit≤ tt))
       (λ b. pick-case Short (ltb w 0x4000000) _ _
-      (λ t. pick-case Short (eqb (bareSort (sortIn f (w - 0x2000000))) 3) _ _ (λ t. lit≤ tt) (λ t. lit≤ tt))
+      (λ t. pick-case Short (eqb (sortTag (sortIn f (w - 0x2000000))) 3) _ _ (λ t. lit≤ tt) (λ t. lit≤ tt))
       (λ c. lit≤ tt)))
 
   sequence-short : (h : ℕ) (vs : List ℕ) → Short (spellSequenceWords f h vs)
   sequence-short h vs =
-      pick-case Short (eqb (bareSort (sortIn f CSI)) 4) _ _
+      pick-case Short (eqb (sortTag (sortIn f CSI)) 4) _ _
       (λ t. pick-case Short (isSequence h vs) _ _ (λ e. size-34 (sequence-fine h vs e)) (λ n. lit≤ tt))
       (λ n. lit≤ tt)
 

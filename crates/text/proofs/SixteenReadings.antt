@@ -6,7 +6,8 @@ use mathlib.Core.List.{List, [], _∷_}
 use lib.ListN.{length}
 use Rattle.run.specs.Head.{from, outcome}
 use Rattle.run.specs.Answers.{answer, given}
-use Rattle.sorts.specs.Tables.{primary, primary-3, supplementary, supplementary-3, grave, acute, circumflex, tilde, macron, breve, dot-above, diaeresis, ring, cedilla, double-acute, ogonek, caron, letters, accents, rows}
+use Rattle.sorts.specs.Tables.{primary, primary-3, supplementary, supplementary-3, grave, acute, circumflex, tilde, macron, breve}
+use Rattle.sorts.specs.Tables.{dot-above, diaeresis, ring, cedilla, double-acute, ogonek, caron, letters, accents, rows}
 use Rattle.sorts.specs.Forms.{form1, form2, form3, alphabetOf}
 use Rattle.squares.specs.Squares.{squareOf, squares, pairOf}
 use Rattle.sorts.specs.Sorts.{sortIn, shiftedIn}
@@ -16,9 +17,9 @@ use Rattle.sequence_reading.specs.Reading.{digitStep, valueStep, middleStep, st
 use Rattle.sequence_spelling.specs.SequenceOctets.{digitsOf, spellRest, spellValues, spellMiddle, spellSequence, isFine}
 use Rattle.element_reading.specs.Reading.{followerHead, shiftedHead, underlinedHead, headIn}
 use Rattle.element_spelling.specs.ElementOctets.{spellElement}
-use Rattle.text_reading.specs.Answers.{readAnswer, readWords}
+use Rattle.text_reading.specs.ReadAnswers.{readAnswer, readWords}
 use Rattle.text.specs.Outcomes.{convertIn}
-use Rattle.text.specs.Answers.{convertAnswer, convertText}
+use Rattle.text.specs.WriteAnswers.{convertAnswer, convertText}
 
 -- what the table's third column says
 pub data Result : Type 0 where
@@ -86,7 +87,10 @@ All [] = Unit {0}
 All (line form octets result added ∷ more) = (Reads form octets result × Converts form octets added) × All more
 
 pub sixteen : All readings
-unfolding from outcome given primary primary-3 supplementary supplementary-3 grave acute circumflex tilde macron breve dot-above diaeresis ring cedilla double-acute ogonek caron letters accents rows form1 form2 form3 alphabetOf squareOf squares pairOf sortIn shiftedIn spellIn kindOf digitStep valueStep middleStep stepOf scan sequenceHead digitsOf spellRest spellValues spellMiddle spellSequence isFine followerHead shiftedHead underlinedHead headIn spellElement convertIn readAnswer readWords convertAnswer convertText
+unfolding from outcome given primary primary-3 supplementary supplementary-3 grave acute circumflex tilde macron breve dot-above diaeresis
+    ring cedilla double-acute ogonek caron letters accents rows form1 form2 form3 alphabetOf squareOf squares pairOf sortIn shiftedIn
+    spellIn kindOf digitStep valueStep middleStep stepOf scan sequenceHead digitsOf spellRest spellValues spellMiddle spellSequence isFine
+    followerHead shiftedHead underlinedHead headIn spellElement convertIn readAnswer readWords convertAnswer convertText
 sixteen = (
   ((refl, refl), tt),
   (

@@ -11,7 +11,7 @@ use Rattle.sorts.specs.declared.Form.{Form}
 use Rattle.element_words.specs.declared.Element.{Element}
 use Rattle.element_reading.specs.Grammar.{Spells}
 use Rattle.element_spelling.specs.ElementOctets.{Held, Writes, NoneHeld}
-use Rattle.text_reading.specs.Table.{ReadingFault, Answered, Formed}
+use Rattle.text_reading.specs.ReadingNumbers.{ReadingFault, Answered, Formed}
 use Rattle.text.specs.Outcomes.{Respells}
 
 -- 10, writing: behind elements that the form holds, what is left begins with no words of such an element

@@ -1,4 +1,4 @@
--- TO BE BELIEVED: document 01's table of numbers and its order of refusals for a case that is written from its parts: which answer is
+-- To be believed: document 01's table of numbers and its order of refusals for a case that is written from its parts: which answer is
 -- given, and what the lent octets hold after. Nothing here speaks of a writer.
 -- Assumes nothing.
 use Prim.Native.Nat.{ℕ, _≤_, _<_}

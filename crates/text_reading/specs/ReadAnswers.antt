@@ -1,5 +1,5 @@
--- Proved equal to document 01's table of numbers and its order of refusals (specs/Table): the answers of the public functions, and what a
--- lent buffer holds after.
+-- Proved equal to document 01's table of numbers and its order of refusals (ReadingNumbers): the answers of the public functions, and what
+-- a lent buffer holds after. To be believed: `limit`.
 -- Assumes nothing.
 use Prim.Native.Nat.{ℕ}
 use mathlib.Core.List.{List}
@@ -10,8 +10,6 @@ use Rattle.run.specs.Head.{Outcome, outcome}
 use Rattle.run.specs.declared.Answer.{Answer}
 use Rattle.run.specs.Answers.{answer, bare, answerOf, writtenOf}
 use Rattle.sorts.specs.declared.Form.{Form}
-use Rattle.sorts.specs.declared.FormFound.{FormFound}
-use Rattle.sorts.specs.declared.FormFound.the-variants.{Is, Nothing}
 use Rattle.sorts.specs.Forms.{formOf, inForm}
 use Rattle.element_words.specs.declared.Element.{Element}
 use Rattle.element_reading.specs.declared.Step.{Step}
@@ -50,5 +48,5 @@ loneStep form text at =
 -- ---- a part of the code
 
 -- "A lone read's refusal has element 0; the text reader puts its own count there": the answer of a step after n elements
-abbrev pub refusedAs : ℕ → Step → Answer
-refusedAs n step = answer (stepAnswer step .number) n (stepAnswer step .place) (stepAnswer step .count)
+abbrev pub stepAnswerAfter : ℕ → Step → Answer
+stepAnswerAfter n step = answer (stepAnswer step .number) n (stepAnswer step .place) (stepAnswer step .count)

@@ -6,15 +6,18 @@ use mathlib.Core.List.{List, [], _∷_}
 use native.Mathlib.Numerals.{add-one}
 use native.Mathlib.Omega.{arith}
 use lib.ListN.{length, take, drop, getD, length-drop}
-use lib.Seq.{take-all, drop-drop, drop-cons, length-take-le}
+use lib.Seq.{drop-drop, drop-cons, length-take-le}
+use Rattle.run.proofs.Puts.{behind-is}
 use Rattle.sorts.specs.declared.Form.{Form}
 use Rattle.sorts.specs.declared.FormFound.the-variants.{Is}
 use Rattle.sorts.specs.Forms.{formOf}
 use Rattle.case_table.specs.declared.Header.the-variants.{Pages}
-use Rattle.case_table.specs.Layout.{version-1, number16, formOctet, pageCount, lengthsIn, total, ofForm, cut, pagesIn, headerPart, tablePart, pagesPart}
+use Rattle.case_table.specs.Layout.{version-1, number16, formOctet, pageCount, lengthsIn, total, ofForm, cut, pagesIn, headerPart}
+use Rattle.case_table.specs.Layout.{tablePart, pagesPart}
 use Rattle.case_table.specs.Check.{totalIn, headerOf, lengthsOf, pagesOf}
 use Rattle.case_table.specs.Grammar.{Sound}
-use Rattle.case_table.proofs.Lengths.{lengths-take, total-few, pages-cut-out, pages-count, page-at, said-behind, total-next, total-fewer}
+use Rattle.case_table.proofs.Lengths.{lengths-take, total-few, pages-cut-out, pages-count, page-at, said-behind, total-next}
+use Rattle.case_table.proofs.Lengths.{total-fewer}
 use Rattle.case_table.proofs.Checked.{sound-exactly}
 use Rattle.sorts.proofs.FormNumbers.{is-found}
 
@@ -71,7 +74,8 @@ module _ {case : List ℕ} {form pages : ℕ} (right : Right case form pages) wh
       let front : List ℕ = headerPart case in
       pages-cut-out (formOctet front) (pageCount front) (tablePart version-1 case) (pagesPart version-1 case)
       ∙ ap₂ (λ (k : ℕ) (l : List ℕ). ofForm k (cut l (pagesPart version-1 case))) (right .form-octet) lengths-are
-      ∙ ap (λ (k : ℕ). ofForm form (cut (lengthsIn version-1 pages (behindHeader case)) (drop (2 * k) (behindHeader case)))) (right .page-count)
+      ∙ ap (λ (k : ℕ). ofForm form (cut (lengthsIn version-1 pages (behindHeader case)) (drop (2 * k) (behindHeader case))))
+      (right .page-count)
       ∙ ap (λ (l : List ℕ). ofForm form (cut (lengthsIn version-1 pages (behindHeader case)) l)) (drop-drop (2 * pages) 8 case)
 
   pages-in : pagesOf case ≡ pagesIn version-1 form pages (behindHeader case) (drop (8 + 2 * pages) case)
@@ -87,20 +91,24 @@ abbrev pub part : List ℕ → ℕ → ℕ → List ℕ
 part s start end = take (end - start) (drop start s)
 
 -- the lengths before a page, added up from the octets behind the header
-pub summed-before : (case : List ℕ) {page sum : ℕ} → page ≤ 256 → sum ≡ totalIn version-1 page (part case 8 (length case)) → sum ≡ totalBefore case page
+pub summed-before : (case : List ℕ) {page sum : ℕ} → page ≤ 256 → sum ≡ totalIn version-1 page (part case 8 (length case))
+    → sum ≡ totalBefore case page
 summed-before case {page} h e =
     e
-    ∙ ap (totalIn version-1 page) (take-all (length case - 8) (behindHeader case) (omega (arith, length-drop 8 case)))
+    ∙ ap (totalIn version-1 page) (behind-is case 8)
     ∙ total-few (behindHeader case) page h
 
-module _ {case : List ℕ} {form pages page start len : ℕ} (right : Right case form pages) (h : page < pages) (s : start ≡ 8 + 2 * pages + totalBefore case page) (e : len ≡ number16 case (8 + 2 * page)) where
+module _ {case : List ℕ} {form pages page start len : ℕ} (right : Right case form pages) (h : page < pages)
+    (s : start ≡ 8 + 2 * pages + totalBefore case page) (e : len ≡ number16 case (8 + 2 * page)) where
   -- the next page begins where it ends
   pub start-next : start + len ≡ 8 + 2 * pages + totalBefore case (page + 1)
   start-next = omega (arith, s, e, total-next page (behindHeader case), said-behind 8 case (2 * page))
 
   -- it lies in the case
   pub page-inside : start + len ≤ length case
-  page-inside = omega (arith, start-next, right .size, total-fewer (page + 1) pages (behindHeader case) (let l : page + 1 ≤ pages = omega arith in l))
+  page-inside =
+      let l : page + 1 ≤ pages = omega arith in
+      omega (arith, start-next, right .size, total-fewer (page + 1) pages (behindHeader case) l)
 
   pub part-length : length (part case start (start + len)) ≡ len
   part-length =
@@ -113,7 +121,8 @@ module _ {case : List ℕ} {form pages page start len : ℕ} (right : Right case
       let k : number16 (behindHeader case) (2 * page) ≡ start + len - start = omega (arith, e, said-behind 8 case (2 * page)) in
       ap (λ (l : List (ℕ × List ℕ)). getD l page other) (pages-in right)
       ∙ page-at form pages page (behindHeader case) b other h
-      ∙ ap₂ (λ (i : ℕ) (l : List ℕ). (form, take i l)) k (drop-drop (totalBefore case page) (8 + 2 * pages) case ∙ ap (λ (i : ℕ). drop i case) (sym s))
+      ∙ ap₂ (λ (i : ℕ) (l : List ℕ). (form, take i l)) k
+      (drop-drop (totalBefore case page) (8 + 2 * pages) case ∙ ap (λ (i : ℕ). drop i case) (sym s))
 
   -- it is the first of those that are left
   pub page-next : drop page (pagesOf case) ≡ (form, part case start (start + len)) ∷ drop (page + 1) (pagesOf case)

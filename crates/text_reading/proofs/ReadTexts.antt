@@ -11,7 +11,7 @@ use Rattle.run.specs.Grammar.{Run, RunOf, done, more}
 use Rattle.run.specs.Answers.{given, answerOf, roomyAnswer}
 use Rattle.run.proofs.Outcomes as outcomes
 use Rattle.run.proofs.Loops.{Bounded}
-use Rattle.run.proofs.Rooms.{Answers, as-roomy}
+use Rattle.run.proofs.Rooms.{WholeAnswer, as-roomy}
 use Rattle.sorts.specs.declared.Form.{Form}
 use Rattle.sorts.specs.declared.FormFound.the-variants.{Is}
 use Rattle.sorts.specs.Forms.{formOf}
@@ -21,8 +21,8 @@ use Rattle.element_reading.specs.Grammar.{Spells, Refuses}
 use Rattle.element_reading.proofs.Reader.{reads, refuses-exactly-by}
 use Rattle.element_reading.proofs.Sizes.{words-few}
 use Rattle.element_words.proofs.Words.{words-short}
-use Rattle.text_reading.specs.Answers.{readIn, limit, readAnswer, readWords}
-use Rattle.text_reading.specs.Table.{ReadingFault}
+use Rattle.text_reading.specs.ReadAnswers.{readIn, limit, readAnswer, readWords}
+use Rattle.text_reading.specs.ReadingNumbers.{ReadingFault}
 use Rattle.text_reading.proofs.Edges.{a-form, within}
 use Rattle.text_reading.proofs.ByTable.{Meets}
 
@@ -47,7 +47,7 @@ module _ (f : Form) where
 
   -- a form's number, and a text within the limit
   pub read-answers : (form : ℕ) → formOf form ≡ Is f → (text : List ℕ) → length text ≤ limit → (words : List ℕ)
-      → Answers wordsOf (length text) words (readIn f text) (readAnswer form text (length words)) (readWords form text words)
+      → WholeAnswer wordsOf (length text) words (readIn f text) (readAnswer form text (length words)) (readWords form text words)
   unfolding readAnswer readWords
   read-answers form q text l words = (sym (a-form _ _ _ _ _ q (within text _ _ l)), sym (a-form _ _ _ _ _ q (within text _ _ l)))
 

@@ -1,4 +1,5 @@
--- PROVED EQUAL to what Table says (proofs/Cases): what reading a case comes to, its answer and what the lent words hold after.
+-- Proved equal to CaseReadingNumbers (proofs/Cases): what reading a case comes to, its answer and what the lent words hold after; one page's
+-- answer (Cases: page-answers, no-page-answers, turned-page-answers). To be believed: `beside`, and `pageValues`, 01's values of each answer.
 -- Assumes nothing.
 use Prim.Native.Nat.{ℕ, _+_}
 use mathlib.Core.List.{List, [], _∷_, _++_}
@@ -11,7 +12,7 @@ use Rattle.run.specs.Answers.{bare, answerOf, writtenOf, roomyAnswer}
 use Rattle.sorts.specs.Forms.{formOf, inForm}
 use Rattle.element_words.specs.declared.Element.{Element}
 use Rattle.element_words.specs.Words.{wordsOf}
-use Rattle.text_reading.specs.Answers.{readIn, readAnswer}
+use Rattle.text_reading.specs.ReadAnswers.{readIn, readAnswer}
 use Rattle.case_table.specs.declared.Header.{Header}
 use Rattle.case_table.specs.declared.Header.the-variants.{Refused, Pages}
 use Rattle.case_table.specs.Check.{headerAnswer, headerOf, pagesOf}

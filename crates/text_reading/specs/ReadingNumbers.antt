@@ -4,7 +4,6 @@
 -- Assumes nothing.
 use Prim.Native.Nat.{ℕ, _+_, _≤_, _<_}
 use mathlib.Core.Path.{_≡_}
-use mathlib.Core.Logic.{_⊎_}
 use mathlib.Core.List.{List}
 use lib.ListN.{length, drop}
 use Rattle.run.specs.Grammar.{RunOf, Begins, Stopped}
@@ -18,7 +17,7 @@ use Rattle.element_reading.specs.declared.Step.{Step}
 use Rattle.element_reading.specs.declared.Step.the-variants.{Element as Read, Refused, End}
 use Rattle.element_words.specs.Words.{wordsOf}
 use Rattle.element_reading.specs.Grammar.{Spells, Refuses}
-use Rattle.text_reading.specs.Answers.{limit}
+use Rattle.text_reading.specs.ReadAnswers.{limit}
 use Rattle.sorts.specs.Forms.{NoForm}
 
 -- ---- what is refused, behind a run of n elements, at the place p, with the deciding place d

@@ -1,4 +1,4 @@
--- TO BE BELIEVED: document 01's table of numbers and its order of refusals, for reading a case: which numbers are given, with which page,
+-- To be believed: document 01's table of numbers and its order of refusals, for reading a case: which numbers are given, with which page,
 -- and what the lent buffer holds after. Nothing here speaks of a reader.
 -- Assumes nothing.
 use Prim.Native.Nat.{ℕ, _≤_, _<_}
@@ -13,10 +13,10 @@ use Rattle.sorts.specs.Forms.{formOf}
 use Rattle.element_words.specs.declared.Element.{Element}
 use Rattle.element_words.specs.Words.{wordsOf}
 use Rattle.element_reading.specs.Grammar.{Spells}
-use Rattle.text_reading.specs.Table.{ReadingFault}
+use Rattle.text_reading.specs.ReadingNumbers.{ReadingFault}
 use Rattle.case_table.specs.Grammar.{CaseOf, Turned}
 use Rattle.tlx.specs.declared.CaseAnswer.{CaseAnswer}
-use Rattle.tlx.specs.Reading.{beside}
+use Rattle.tlx.specs.CaseReading.{beside}
 
 -- ---- pages
 

@@ -1,7 +1,7 @@
 -- What a step answers, with the count of elements before it: by the step's variant.
 use borrow.Author.Needs.{needs}
-use Rattle.text_reading.proofs.refusal.Statement.{statement}
-use Rattle.text_reading.proofs.refusal.Tie as tie
+use Rattle.text_reading.proofs.step_answer.Statement.{statement}
+use Rattle.text_reading.proofs.step_answer.Tie as tie
 
 enum-known-step : tie.Need-enum-known-step
 enum-known-step c = search needs
@@ -24,8 +24,8 @@ returns-2 c = rw (c .before .step2 .given .1)
 returns-3 : tie.Need-returns-3
 returns-3 c = rw (c .enum-told .given .1)
 
-pub refusal-spec : {M : Type 1} → statement M
-refusal-spec =
+pub step-answer-spec : {M : Type 1} → statement M
+step-answer-spec =
     tie.close
     (tie.spec
     enum-known-step
