@@ -1,6 +1,6 @@
--- Proved equal to Grammar: what is asked of a case before its pages are read, over its header's octets, its table's octets and its size alone,
--- and the same of a whole case (proofs/Checked: turned-in, turned-exactly); its pages and lengths (proofs/Laid: case-pages, lengths-are). To be
--- believed: `headerAnswer`, 01's number of each answer.
+-- Proved equal to Grammar: what is asked of a case before its pages are read, over its header's octets, its table's octets and its size
+-- alone, and the same of a whole case (proofs/Checked: turned-in, turned-exactly); its pages and lengths (proofs/Laid: case-pages,
+-- lengths-are). To be believed: `headerAnswer`, 01's number of each answer.
 -- Assumes nothing.
 use Prim.Native.Nat.{ℕ}
 use mathlib.Core.Bool.{Bool, true, false}

@@ -1,5 +1,5 @@
--- Proved equal to the grammar (Reader: reads, refuses-exactly-by): what the reader of an element answers. To be believed: `stepAnswer`, 01's
--- number and values of each answer.
+-- Proved equal to the grammar (Reader: reads, refuses-exactly-by): what the reader of an element answers. To be believed: `stepAnswer`,
+-- 01's number and values of each answer.
 -- Assumes nothing.
 use Prim.Native.Nat.{ℕ, _+_}
 use mathlib.Core.Bool.{Bool, true, false}

@@ -1,5 +1,6 @@
--- Elements as words (document 01, "Elements as words"). To be believed: the words of an element. Proved equal to `Means`: what stands at the head
--- of a list of words (Words: words-read). One word below 2^26 is an element by its shape; whether a form has it is `Held`'s question.
+-- Elements as words (document 01, "Elements as words"). To be believed: the words of an element. Proved equal to `Means`: what stands
+-- at the head of a list of words (Words: words-read). One word below 2^26 is an element by its shape; whether a form has it is `Held`'s
+-- question.
 -- Assumes nothing.
 use Prim.Native.Nat.{ℕ, _+_, _*_, _-_, _/_, _%_, _<_}
 use mathlib.Core.Bool.{Bool, true, false}

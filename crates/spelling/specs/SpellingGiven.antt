@@ -1,5 +1,5 @@
--- Proved equal to the canonical spelling (CanonicalExactly: exactly): the definition that gives it, looked up in a form's tables; behind it,
--- parts of the code.
+-- Proved equal to the canonical spelling (CanonicalExactly: exactly): the definition that gives it, looked up in a form's tables;
+-- behind it, parts of the code.
 -- Assumes nothing.
 use Prim.Native.Nat.{ℕ, _%_}
 use mathlib.Core.Bool.{Bool, true, false}

@@ -1,6 +1,7 @@
--- The theorems of record: what the public functions of this crate are worth. They speak of the definitions that the contracts cite
--- (`readAnswer`, `readWords` and the like), in the words of the grammar (`Spells`, `Refuses`, `CanonicalElement`, `Held`), over the form.
--- The sentence above each is the demand's that it carries out; document 01's own words stand in quotation marks.
+-- The theorems of record: what the public functions of `text` and `text_reading` are worth. They speak of the definitions that the
+-- contracts cite (`readAnswer`, `readWords` and the like), in the words of the grammar (`Spells`, `Refuses`, `CanonicalElement`,
+-- `Held`), over the form. The sentence above each is the demand's that it carries out; document 01's own words stand in quotation
+-- marks.
 -- Assumes nothing.
 use Prim.Native.Nat.{ℕ, _+_, _≤_, _<_}
 use mathlib.Core.Path.{_≡_, refl, sym, ap, ap₂, _∙_, subst, subst₂}

@@ -1,5 +1,6 @@
--- Proved equal to CaseReadingNumbers (proofs/Cases): what reading a case comes to, its answer and what the lent words hold after; one page's
--- answer (Cases: page-answers, no-page-answers, turned-page-answers). To be believed: `beside`, and `pageValues`, 01's values of each answer.
+-- Proved equal to CaseReadingNumbers (proofs/Cases): what reading a case comes to, its answer and what the lent words hold after; one
+-- page's answer (Cases: page-answers, no-page-answers, turned-page-answers). To be believed: `beside`, and `pageValues`, 01's values of
+-- each answer.
 -- Assumes nothing.
 use Prim.Native.Nat.{ℕ, _+_}
 use mathlib.Core.List.{List, [], _∷_, _++_}
