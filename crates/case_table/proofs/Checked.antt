@@ -2,7 +2,7 @@
 -- case.
 -- Assumes nothing.
 use Prim.Native.Nat.{ℕ, _≤_}
-use mathlib.Core.Path.{_≡_, refl, sym, ap, ap₂, subst, _∙_}
+use mathlib.Core.Path.{_≡_, refl, sym, ap₂, subst, _∙_}
 use mathlib.Core.Logic.{_↔_}
 use mathlib.Core.Bool.{Bool, true, false}
 use mathlib.Core.List.{List, [], _∷_}
@@ -10,7 +10,6 @@ use native.Mathlib.Omega.{arith}
 use lib.Dec.{eqb, leb}
 use lib.ListN.{length, take}
 use borrow.Author.Tests.{eqb-true, eqb-false, leb-true, leb-false, eq-eqb}
-use Rattle.run.specs.Answers.{bare}
 use Rattle.run.proofs.Choices.{both-true}
 use Rattle.sorts.specs.declared.FormFound.{FormFound}
 use Rattle.sorts.specs.declared.FormFound.the-variants.{Is, Nothing}
@@ -18,7 +17,8 @@ use Rattle.sorts.specs.Forms.{formOf}
 use Rattle.case_table.specs.declared.Header.{Header}
 use Rattle.case_table.specs.declared.Header.the-variants.{Refused, Pages}
 use Rattle.case_table.specs.Layout.{Layout, version-1, mark, versionOf, formOctet, pageCount, headerPart, tablePart}
-use Rattle.case_table.specs.Check.{begins, headerIn, headerOf, headerAnswer}
+use Rattle.case_table.specs.Check.{begins, headerIn, headerOf}
+use Rattle.case_table.specs.HeaderNumbers.{headerAnswer, headerForm, headerPages, HeaderTable, HeaderTableOf}
 use Rattle.case_table.specs.Grammar.{Marked, Versioned, WithForm, TurnedBy, SoundIn, Turned, Sound, sizeSaid}
 use Rattle.case_table.proofs.Headers.{Begun, Known, short, unmarked, other-version, no-form, many, wrong-size, right}
 use Rattle.sorts.proofs.FormNumbers.{found-is, is-found, none-exactly}
@@ -120,6 +120,15 @@ module _ (layout : Layout) (header table : List ℕ) (size : ℕ) where
   decided : Says asked
   decided = by-eight (leb 8 size) refl
 
+  row-of : {h : Header} → Says h → HeaderTable layout header table size (headerAnswer h) (headerForm h) (headerPages h)
+  row-of (turned t) = HeaderTable.refused t
+  row-of (sound s) = HeaderTable.right s
+
+  -- what header and table say is a row of 01's numbers
+  pub row-in : {r : Header} → r ≡ headerIn layout header table size
+      → HeaderTable layout header table size (headerAnswer r) (headerForm r) (headerPages r)
+  row-in e = row-of (subst Says (sym e) decided)
+
   turned-of : {h : Header} → Says h → (r : ℕ) → h ≡ Refused r → TurnedBy layout header table size r
   turned-of (turned {r = r₀} t) r q = let e : r₀ ≡ r = cc in subst (TurnedBy layout header table size) e t
   turned-of (sound s) r q = let z : _≡_ {A = ℕ} 0 1 = cc in absurd (omega arith)
@@ -164,10 +173,6 @@ module _ (case : List ℕ) where
   unfolding headerOf
   sound-exactly = sound-in version-1 (headerPart case) (tablePart version-1 case) (length case)
 
-  -- ---- 01's number of what header and table say
-
-  pub refused-number : (r : ℕ) → Turned case r → headerAnswer (headerOf case) ≡ bare r
-  refused-number r t = ap headerAnswer (turned-exactly r .1 t)
-
-  pub right-number : Sound case → headerAnswer (headerOf case) ≡ bare 0
-  right-number s = ap headerAnswer (sound-exactly _ _ .1 (s, refl, refl))
+  pub row-exactly : {r : Header} → r ≡ headerOf case → HeaderTableOf case (headerAnswer r) (headerForm r) (headerPages r)
+  unfolding headerOf
+  row-exactly e = row-in version-1 (headerPart case) (tablePart version-1 case) (length case) e

@@ -12,12 +12,13 @@ use lib.Seq.{getD-drop, getD-take, take-append-seam, drop-append-seam, drop-drop
 use Rattle.run.specs.Answers.{given}
 use Rattle.case_table.specs.declared.Header.the-variants.{Pages}
 use Rattle.case_table.specs.Layout.{version-1, mark, big16, pageCount, header, lengthsIn, total, ofForm, cut, headerPart, tablePart}
-use Rattle.case_table.specs.Layout.{caseOf, caseWith}
+use Rattle.case_table.specs.Layout.{sizes, joined, caseOf, caseWith}
+use Rattle.case_table.specs.PagePlaces.{Right, behindHeader}
 use Rattle.case_table.specs.Check.{headerOf, lengthsOf, pagesOf}
 use Rattle.case_table.specs.Grammar.{Octets, CaseOf, Sound, sizeSaid}
 use Rattle.case_table.proofs.Lengths.{lengths-take}
 use Rattle.case_table.proofs.Checked.{sound-exactly}
-use Rattle.case_table.proofs.PagePlaces.{Right, right-header, pages-cut, behindHeader}
+use Rattle.case_table.proofs.PagePlaces.{right-header, pages-cut}
 use Rattle.sorts.specs.Forms.{IsForm}
 use Rattle.sorts.proofs.FormNumbers.{found-is}
 
@@ -32,9 +33,6 @@ pub saying : (a b : ℕ) → b < 0x100 → ((0x100 * a + b) / 0x100 ≡ a) × ((
 saying a b h = (omega arith, omega arith)
 
 -- ---- the table
-
-abbrev pub sizes : List (List ℕ) → List ℕ
-sizes pages = map length pages
 
 -- an entry has two octets
 pub table-length : (ns : List ℕ) → length (given big16 ns) ≡ 2 * length ns
@@ -68,9 +66,6 @@ lengths-count zero s = refl
 lengths-count (suc n) s = ap suc (lengths-count n (drop 2 s))
 
 -- ---- the pages
-
-abbrev pub joined : List (List ℕ) → List ℕ
-joined pages = given (λ (page : List ℕ). page) pages
 
 -- pages that stand one behind the other are cut out again
 pub cut-joined : (pages : List (List ℕ)) → cut (sizes pages) (joined pages) ≡ pages

@@ -8,37 +8,18 @@ use native.Mathlib.Omega.{arith}
 use lib.ListN.{length, take, drop, getD, length-drop}
 use lib.Seq.{drop-drop, drop-cons, length-take-le}
 use Rattle.run.proofs.Puts.{behind-is}
-use Rattle.sorts.specs.declared.Form.{Form}
-use Rattle.sorts.specs.declared.FormFound.the-variants.{Is}
 use Rattle.sorts.specs.Forms.{formOf}
 use Rattle.case_table.specs.declared.Header.the-variants.{Pages}
 use Rattle.case_table.specs.Layout.{version-1, number16, formOctet, pageCount, lengthsIn, total, ofForm, cut, pagesIn, headerPart}
 use Rattle.case_table.specs.Layout.{tablePart, pagesPart}
 use Rattle.case_table.specs.Check.{totalIn, headerOf, lengthsOf, pagesOf}
-use Rattle.case_table.specs.Grammar.{Sound}
+use Rattle.case_table.specs.PagePlaces.{behindHeader, totalBefore, between, Right}
 use Rattle.case_table.proofs.Lengths.{lengths-take, total-few, pages-cut-out, pages-count, page-at, said-behind, total-next}
 use Rattle.case_table.proofs.Lengths.{total-fewer}
 use Rattle.case_table.proofs.Checked.{sound-exactly}
 use Rattle.sorts.proofs.FormNumbers.{is-found}
 
 -- ---- what a right header says
-
--- the octets behind the header, the table first
-abbrev pub behindHeader : List ℕ → List ℕ
-behindHeader case = drop 8 case
-
--- the first lengths of the table, added up
-abbrev pub totalBefore : List ℕ → ℕ → ℕ
-totalBefore case page = total (lengthsIn version-1 page (behindHeader case))
-
-pub record Right (case : List ℕ) (form pages : ℕ) : Type 0 where
-  pub sound : Sound case
-  pub form-octet : formOctet (headerPart case) ≡ form
-  pub page-count : pageCount (headerPart case) ≡ pages
-  pub the-form : Form
-  pub is-form : formOf form ≡ Is the-form
-  pub few : pages ≤ 0x100
-  pub size : length case ≡ 8 + 2 * pages + totalBefore case pages
 
 -- the table may be taken with what stands behind it
 table-lengths : (case : List ℕ) → lengthsOf case ≡ lengthsIn version-1 (pageCount (headerPart case)) (behindHeader case)
@@ -65,15 +46,15 @@ right-header case form pages q =
     }
 
 module _ {case : List ℕ} {form pages : ℕ} (right : Right case form pages) where
-  pub lengths-are : lengthsOf case ≡ lengthsIn version-1 pages (behindHeader case)
-  lengths-are = table-lengths case ∙ ap (λ (k : ℕ). lengthsIn version-1 k (behindHeader case)) (right .page-count)
+  pub lengths-counted : lengthsOf case ≡ lengthsIn version-1 pages (behindHeader case)
+  lengths-counted = table-lengths case ∙ ap (λ (k : ℕ). lengthsIn version-1 k (behindHeader case)) (right .page-count)
 
   pub pages-cut : pagesOf case ≡ ofForm form (cut (lengthsIn version-1 pages (behindHeader case)) (drop (8 + 2 * pages) case))
   unfolding pagesOf lengthsOf
   pages-cut =
       let front : List ℕ = headerPart case in
       pages-cut-out (formOctet front) (pageCount front) (tablePart version-1 case) (pagesPart version-1 case)
-      ∙ ap₂ (λ (k : ℕ) (l : List ℕ). ofForm k (cut l (pagesPart version-1 case))) (right .form-octet) lengths-are
+      ∙ ap₂ (λ (k : ℕ) (l : List ℕ). ofForm k (cut l (pagesPart version-1 case))) (right .form-octet) lengths-counted
       ∙ ap (λ (k : ℕ). ofForm form (cut (lengthsIn version-1 pages (behindHeader case)) (drop (2 * k) (behindHeader case))))
       (right .page-count)
       ∙ ap (λ (l : List ℕ). ofForm form (cut (lengthsIn version-1 pages (behindHeader case)) l)) (drop-drop (2 * pages) 8 case)
@@ -86,12 +67,8 @@ module _ {case : List ℕ} {form pages : ℕ} (right : Right case form pages) wh
 
 -- ---- one page, which begins at `start`
 
--- the octets from a place up to an end
-abbrev pub part : List ℕ → ℕ → ℕ → List ℕ
-part s start end = take (end - start) (drop start s)
-
 -- the lengths before a page, added up from the octets behind the header
-pub summed-before : (case : List ℕ) {page sum : ℕ} → page ≤ 256 → sum ≡ totalIn version-1 page (part case 8 (length case))
+pub summed-before : (case : List ℕ) {page sum : ℕ} → page ≤ 256 → sum ≡ totalIn version-1 page (between case 8 (length case))
     → sum ≡ totalBefore case page
 summed-before case {page} h e =
     e
@@ -110,12 +87,12 @@ module _ {case : List ℕ} {form pages page start len : ℕ} (right : Right case
       let l : page + 1 ≤ pages = omega arith in
       omega (arith, start-next, right .size, total-fewer (page + 1) pages (behindHeader case) l)
 
-  pub part-length : length (part case start (start + len)) ≡ len
-  part-length =
+  pub between-length : length (between case start (start + len)) ≡ len
+  between-length =
       let k : start + len - start ≡ len = omega arith in
       length-take-le (start + len - start) (drop start case) (omega (arith, length-drop start case, page-inside)) ∙ k
 
-  pub page-is : (other : ℕ × List ℕ) → getD (pagesOf case) page other ≡ (form, part case start (start + len))
+  pub page-is : (other : ℕ × List ℕ) → getD (pagesOf case) page other ≡ (form, between case start (start + len))
   page-is other =
       let b : List ℕ = drop (8 + 2 * pages) case in
       let k : number16 (behindHeader case) (2 * page) ≡ start + len - start = omega (arith, e, said-behind 8 case (2 * page)) in
@@ -125,7 +102,7 @@ module _ {case : List ℕ} {form pages page start len : ℕ} (right : Right case
       (drop-drop (totalBefore case page) (8 + 2 * pages) case ∙ ap (λ (i : ℕ). drop i case) (sym s))
 
   -- it is the first of those that are left
-  pub page-next : drop page (pagesOf case) ≡ (form, part case start (start + len)) ∷ drop (page + 1) (pagesOf case)
+  pub page-next : drop page (pagesOf case) ≡ (form, between case start (start + len)) ∷ drop (page + 1) (pagesOf case)
   page-next =
       let n = pages-counted right in
       drop-cons (pagesOf case) page (0, []) (omega arith)

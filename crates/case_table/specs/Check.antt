@@ -1,6 +1,6 @@
 -- Proved equal to Grammar: what is asked of a case before its pages are read, over its header's octets, its table's octets and its size
 -- alone, and the same of a whole case (proofs/Checked: turned-in, turned-exactly); its pages and lengths (proofs/Laid: case-pages,
--- lengths-are). To be believed: `headerAnswer`, 01's number of each answer.
+-- lengths-are). A part of the code: `totalIn`.
 -- Assumes nothing.
 use Prim.Native.Nat.{ℕ}
 use mathlib.Core.Bool.{Bool, true, false}
@@ -8,8 +8,6 @@ use mathlib.Core.List.{List, [], _∷_}
 use lib.Dec.{eqb, leb}
 use lib.ListN.{length}
 use Rattle.run.specs.Choice.{pick}
-use Rattle.run.specs.declared.Answer.{Answer}
-use Rattle.run.specs.Answers.{bare}
 use Rattle.sorts.specs.Forms.{formOf, inForm}
 use Rattle.case_table.specs.declared.Header.{Header}
 use Rattle.case_table.specs.declared.Header.the-variants.{Refused, Pages}
@@ -22,27 +20,25 @@ begins [] s = true
 begins (m ∷ ms) [] = false
 begins (m ∷ ms) (o ∷ s) = let more = begins ms s in pick (eqb m o) more false
 
--- 01's number of each answer, which carries no place, element or count
-abbrev pub headerAnswer : Header → Answer
-headerAnswer (Refused r) = bare r
-headerAnswer (Pages form n) = bare 0
+-- the refusal unless the test holds; then what is left to ask
+abbrev pub unless : Bool → Header → Header → Header
+unless holds refusal rest = pick holds rest refusal
 
 -- "For a case: 13, 14, 11, 15", or the form and how many pages
--- 13: "case under 8 octets, or wrong mark"
--- 14: "case version not 1", of the version that the layout is for
--- 11: "form not 1 to 3"
--- 15: "over 256 pages, or size wrong"
 unfoldable pub headerIn : Layout → (header table : List ℕ) (size : ℕ) → Header
 headerIn layout header table size =
     let pages = pageCount header in
-    pick (leb 8 size) (pick (begins mark header)
-    (pick (eqb (versionOf header) (layout .version))
+    -- 13: "case under 8 octets, or wrong mark"
+    unless (leb 8 size) (Refused 13)
+    (unless (begins mark header) (Refused 13)
+    -- 14: "case version not 1", of the version that the layout is for
+    (unless (eqb (versionOf header) (layout .version)) (Refused 14)
+    -- 11: "form not 1 to 3"
     (inForm (formOf (formOctet header)) (Refused 11)
-    (λ f. pick (leb pages 0x100) (pick (eqb size (sizeOf layout pages (lengthsIn layout pages table)))
-    (Pages (formOctet header) pages)
-    (Refused 15)) (Refused 15)))
-    (Refused 14))
-    (Refused 13)) (Refused 13)
+    -- 15: "over 256 pages, or size wrong"
+    (λ f. unless (leb pages 0x100) (Refused 15)
+    (unless (eqb size (sizeOf layout pages (lengthsIn layout pages table))) (Refused 15)
+    (Pages (formOctet header) pages))))))
 
 -- ---- of a whole case, by its parts
 

@@ -73,6 +73,13 @@ sizeOf layout pages lengths = 8 + layout .entry * pages + total lengths
 abbrev pub ofForm : ℕ → List (List ℕ) → List (ℕ × List ℕ)
 ofForm form pages = map (λ (page : List ℕ). (form, page)) pages
 
+-- the lengths of pages, and their octets, one behind the other
+abbrev pub sizes : List (List ℕ) → List ℕ
+sizes pages = map length pages
+
+abbrev pub joined : List (List ℕ) → List ℕ
+joined pages = given (λ page. page) pages
+
 -- the octets of pages of these lengths that stand one behind the other: each starts where the one before it ends
 unfoldable pub cut : List ℕ → List ℕ → List (List ℕ)
 cut [] octets = []

@@ -1,10 +1,12 @@
 // The header and the table of a TLX case (document 01, "The TLX case"): what they say, asked before any page is read.
 use sorts::FormFound;
 ghost use mathlib.Core.Path.{_≡_};
-ghost use Prim.Native.Nat.{_*_, _≤_, _<_};
+ghost use Prim.Native.Nat.{_<_};
 ghost use lib.ListN.{getD};
-ghost use Rattle.case_table.specs.Layout.{number16, mark, version-1};
-ghost use Rattle.case_table.specs.Check.{begins, totalIn, headerIn, headerOf};
+ghost use Rattle.case_table.specs.Layout.{mark};
+ghost use Rattle.case_table.specs.Check.{begins};
+ghost use Rattle.case_table.specs.Grammar.{Octets};
+ghost use Rattle.case_table.specs.Promises.{NumberAtPromise, TotalOfPromise, HeaderInPromise, HeaderOfPromise};
 
 // What the header and the table of a case say.
 pub enum Header {
@@ -12,6 +14,17 @@ pub enum Header {
     Refused(usize),
     // the form's number, and how many pages
     Pages { form: u32, pages: usize },
+}
+
+// The first octet; 0 where there is none. That every entry of a slice is below 256 is known once one of them is read with a cast: the
+// promise says it of all, and `header_of` calls for that alone, as the theorems of a case begin with it.
+fn first_octet(octets: &[u8]) -> usize
+    ensures { λ r. ⌜ (r ≡ getD (now (octets .entry)) 0 0) × Octets (now (octets .entry)) ⌝ }
+{
+    if octets.len() == 0 {
+        return 0;
+    }
+    octets[0] as usize
 }
 
 // The octet at a place; 0 where there is none.
@@ -26,7 +39,7 @@ fn octet_at(octets: &[u8], at: usize) -> usize
 
 // 01: "big-endian 16-bit": the number in the two octets from a place on; an octet that is not there says 0.
 pub fn number_at(octets: &[u8], at: usize) -> usize
-    ensures { λ r. ⌜ (r ≡ number16 (now (octets .entry)) at) × (r < 0x10000) ⌝ }
+    ensures { λ r. ⌜ NumberAtPromise (now (octets .entry)) at r ⌝ }
 {
     if octets.len() <= at {
         return 0;
@@ -55,7 +68,7 @@ fn is_marked(header: &[u8]) -> bool
 
 // The first lengths of a table, added up; 0 of more pages than a case may have.
 pub fn total_of(table: &[u8], n: usize) -> usize
-    ensures { λ r. ⌜ (r ≡ totalIn version-1 n (now (table .entry))) × (r ≤ 65535 * n) × (r ≤ 16776960) ⌝ }
+    ensures { λ r. ⌜ TotalOfPromise (now (table .entry)) n r ⌝ }
 {
     if 256 < n {
         return 0;
@@ -71,7 +84,7 @@ pub fn total_of(table: &[u8], n: usize) -> usize
 
 // What header and table say of a case of so many octets. 01's order of refusals: 13, 14, 11, 15.
 pub fn header_in(header: &[u8], table: &[u8], size: usize) -> Header
-    ensures { λ r. ⌜ r ≡ headerIn version-1 (now (header .entry)) (now (table .entry)) size ⌝ }
+    ensures { λ r. ⌜ HeaderInPromise (now (header .entry)) (now (table .entry)) size r ⌝ }
 {
     if size < 8 {
         return Header::Refused(13);
@@ -99,8 +112,9 @@ pub fn header_in(header: &[u8], table: &[u8], size: usize) -> Header
 
 // The same of a whole case, cut into its parts.
 pub fn header_of(case: &[u8]) -> Header
-    ensures { λ r. ⌜ r ≡ headerOf (now (case .entry)) ⌝ }
+    ensures { λ r. ⌜ HeaderOfPromise (now (case .entry)) r ⌝ }
 {
+    first_octet(case);
     if case.len() < 8 {
         return Header::Refused(13);
     }

@@ -1,3 +1,4 @@
 mod Parts
 mod WaysOut
 pub mod Written
+pub mod OneAnswer

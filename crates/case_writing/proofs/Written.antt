@@ -1,7 +1,7 @@
 -- What `write_case` answers, exactly when; and what a written case is read as.
 -- Assumes nothing.
 use Prim.Native.Nat.{ℕ, _+_, _*_, _≤_}
-use mathlib.Core.Path.{_≡_, refl, ap, subst₂, _∙_}
+use mathlib.Core.Path.{_≡_, refl, sym, ap, subst₂, _∙_}
 use mathlib.Core.Logic.{_↔_}
 use mathlib.Core.Bool.{Bool, true, false}
 use mathlib.Core.List.{List, [], _∷_, List·Memᴰ, List·Memᴰ·head, List·Memᴰ·tail, List·Memᴰ·not-nil}
@@ -22,6 +22,7 @@ use Rattle.case_table.specs.Check.{headerOf, lengthsOf, pagesOf}
 use Rattle.case_table.specs.Grammar.{CaseOf}
 use Rattle.case_writing.specs.CaseWritingNumbers.{Parts, WriteCaseTable}
 use Rattle.case_writing.specs.FromParts.{fitting, writtenAnswer, writeCaseAnswer, writeCaseOctets}
+use Rattle.case_writing.specs.Promises.{WriteCasePromise}
 use Rattle.case_writing.proofs.Parts.{none-over, over-none, fits}
 use Rattle.case_writing.proofs.WaysOut.{case-length}
 use Rattle.case_table.proofs.Laid.{header-says, lengths-are, pages-said, joined-pages, parts-case, cut-count, joined-cut}
@@ -107,12 +108,15 @@ module _ (form : ℕ) (lengths octets case : List ℕ) where
   by-form (Is f) q = by-parts (found-is form f q) fit refl
   by-form Nothing q = WriteCaseTable.no-form (none-exactly form .0 q)
 
-  -- "11, then 15 .., then 9", and else accepted: the four numbers, and what the lent octets hold after, are exactly those of the table
-  pub write-case-exactly : (a : Answer) (after : List ℕ)
-      → ((writeCaseAnswer form lengths octets (length case) ≡ a) × (writeCaseOctets form lengths octets case ≡ after))
-      ↔ WriteCaseTable form lengths octets case a after
+  -- What `write_case` promises is exactly a row of the table, "11, then 15 .., then 9", and else accepted: the four numbers, and what the
+  -- lent octets hold after.
+  pub write-case-exactly : (r : Answer) (after : List ℕ)
+      → WriteCasePromise form lengths octets case r after ↔ WriteCaseTable form lengths octets case r after
   unfolding writeCaseAnswer writeCaseOctets
-  write-case-exactly a after = (λ e. subst₂ Row (e .0) (e .1) (by-form (formOf form) refl), of-row)
+  write-case-exactly r after = (
+    λ p. subst₂ Row (sym (p .0)) (sym (p .1)) (by-form (formOf form) refl),
+    λ row. let e = of-row row in (sym (e .0), sym (e .1)),
+  )
 
 -- ---- what is written
 
@@ -149,24 +153,28 @@ module _ (form : ℕ) (lengths octets : List ℕ) (i : IsForm form) (p : Parts l
       ∙ joined-pages form (cut lengths octets)
       ∙ joined-cut lengths octets (p .sum)
 
--- "A refusal writes nothing to any buffer."
-pub refused-keeps : (form : ℕ) (lengths octets case : List ℕ) → (writeCaseAnswer form lengths octets (length case) .number ≡ 0 → ⊥)
-    → writeCaseOctets form lengths octets case ≡ case
-refused-keeps form lengths octets case = by (write-case-exactly form lengths octets case _ _ .0 (refl, refl))
-  where
-    by : {a : Answer} {after : List ℕ} → WriteCaseTable form lengths octets case a after → (a .number ≡ 0 → ⊥) → after ≡ case
-    by (WriteCaseTable.no-form n) h = refl
-    by (WriteCaseTable.no-parts i n) h = refl
-    by (WriteCaseTable.short-room i p l) h = refl
-    by (WriteCaseTable.written i p l) h = absurd (h refl)
+-- ---- what is not written
 
--- "Entries past the count stay."
-pub past-count : (form : ℕ) (lengths octets case : List ℕ) (k d : ℕ) → writeCaseAnswer form lengths octets (length case) .count ≤ k
-    → getD (writeCaseOctets form lengths octets case) k d ≡ getD case k d
-past-count form lengths octets case k d = by (write-case-exactly form lengths octets case _ _ .0 (refl, refl))
-  where
-    by : {a : Answer} {after : List ℕ} → WriteCaseTable form lengths octets case a after → a .count ≤ k → getD after k d ≡ getD case k d
-    by (WriteCaseTable.no-form n) h = refl
-    by (WriteCaseTable.no-parts i n) h = refl
-    by (WriteCaseTable.short-room i p l) h = refl
-    by (WriteCaseTable.written i p l) h = over-past case (caseWith form lengths octets) k d h
+row-keeps : {form : ℕ} {lengths octets case : List ℕ} {r : Answer} {after : List ℕ} → WriteCaseTable form lengths octets case r after
+    → (r .number ≡ 0 → ⊥) → after ≡ case
+row-keeps (WriteCaseTable.no-form n) h = refl
+row-keeps (WriteCaseTable.no-parts i n) h = refl
+row-keeps (WriteCaseTable.short-room i p l) h = refl
+row-keeps (WriteCaseTable.written i p l) h = absurd (h refl)
+
+row-past : {form : ℕ} {lengths octets case : List ℕ} {r : Answer} {after : List ℕ} → WriteCaseTable form lengths octets case r after
+    → (k d : ℕ) → r .count ≤ k → getD after k d ≡ getD case k d
+row-past (WriteCaseTable.no-form n) k d h = refl
+row-past (WriteCaseTable.no-parts i n) k d h = refl
+row-past (WriteCaseTable.short-room i p l) k d h = refl
+row-past {form} {lengths} {octets} {case} (WriteCaseTable.written i p l) k d h = over-past case (caseWith form lengths octets) k d h
+
+module _ (form : ℕ) (lengths octets case : List ℕ) (r : Answer) (after : List ℕ)
+    (promise : WriteCasePromise form lengths octets case r after) where
+  -- "A refusal writes nothing to any buffer."
+  pub refused-keeps : (r .number ≡ 0 → ⊥) → after ≡ case
+  refused-keeps = row-keeps (write-case-exactly form lengths octets case r after .0 promise)
+
+  -- "Entries past the count stay."
+  pub past-count : (k d : ℕ) → r .count ≤ k → getD after k d ≡ getD case k d
+  past-count = row-past (write-case-exactly form lengths octets case r after .0 promise)

@@ -1,5 +1,5 @@
--- Proved equal to CaseWritingNumbers (proofs/Written): what writing a case from its parts comes to, its answer and what the lent
--- octets hold after.
+-- Proved equal to CaseWritingNumbers (proofs/Written: write-case-exactly): what writing a case from its parts comes to, its answer and what
+-- the lent octets hold after.
 -- Assumes nothing.
 use Prim.Native.Nat.{ℕ}
 use mathlib.Core.Bool.{Bool, true, false}

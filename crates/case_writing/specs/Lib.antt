@@ -1,2 +1,3 @@
 pub mod FromParts
 pub mod CaseWritingNumbers
+pub mod Promises

@@ -8,7 +8,8 @@ ghost use lib.ListN.{length};
 ghost use Rattle.run.specs.Answers.{given};
 ghost use Rattle.run.specs.Put.{Put};
 ghost use Rattle.case_table.specs.Layout.{big16, header};
-ghost use Rattle.case_writing.specs.FromParts.{noneOver, fitting, writeCaseAnswer, writeCaseOctets};
+ghost use Rattle.case_writing.specs.FromParts.{noneOver, fitting};
+ghost use Rattle.case_writing.specs.Promises.{WriteCasePromise};
 
 // 01: 15 "if there are over 256 pages, a length is over 65,535 or the lengths don't add up to the page octets".
 fn is_fitting(lengths: &[u32], size: usize) -> bool
@@ -79,7 +80,7 @@ fn put_table(lengths: &[u32], out: &mut [u8], at: usize) -> usize
 
 // Writes a case from its parts; the pages are not read. 01's order of refusals: 11, 15, 9.
 pub fn write_case(form: u32, lengths: &[u32], octets: &[u8], case: &mut [u8]) -> Answer
-    ensures { λ r. ⌜ (r ≡ writeCaseAnswer form (now (lengths .entry)) (now (octets .entry)) (length (now (case .entry)))) × (now (case .exit) ≡ writeCaseOctets form (now (lengths .entry)) (now (octets .entry)) (now (case .entry))) ⌝ }
+    ensures { λ r. ⌜ WriteCasePromise form (now (lengths .entry)) (now (octets .entry)) (now (case .entry)) r (now (case .exit)) ⌝ }
 {
     let found = sorts::form_of(form);
     let FormFound::Is(_) = found else {

@@ -16,14 +16,14 @@ use Rattle.sorts.specs.declared.Sort.the-variants.{Underline, Shift, SequenceSt
 use Rattle.sorts.specs.Sorts.{sortIn}
 use Rattle.squares.proofs.SquareFacts.{mark-space, shifted-mark-space}
 use Rattle.sorts.proofs.SortFacts.{space-sorts, shift-is, sequence-is}
-use Rattle.sequence_reading.specs.Kinds.{CSI}
+use Rattle.sorts.specs.Forms.{CSI}
 use Rattle.sequence_reading.specs.Grammar.{RefusesSequence}
-use Rattle.sequence_reading.specs.Reading.{sequenceHead}
+use Rattle.sequence_reading.specs.SequenceHead.{sequenceHead}
 use Rattle.sequence_reading.proofs.Refusals.{stays, goes-on, cut-off}
 use Rattle.element_words.specs.declared.Element.{Element}
 use Rattle.element_words.specs.Words.{sequenceElement}
-use Rattle.element_reading.specs.Grammar.{Awaits, Spells, Refuses, Continues}
-use Rattle.element_reading.specs.Reading.{headIn}
+use Rattle.element_reading.specs.Grammar.{Awaits, Spells, Refuses, Continues, Cut-short}
+use Rattle.element_reading.specs.ElementHead.{headIn}
 use Rattle.element_reading.proofs.Reader.{is-or, reads, refuses-exactly-by, sequence-refused, refused-sequence}
 
 module _ (f : Form) where
@@ -140,13 +140,6 @@ module _ (f : Form) where
   unfinished h = unfinished-by h refl
 
   -- 4 is given exactly when all that is left is the beginning of an element, and not all of it
-  pub record Cut-short (s : List ℕ) : Type 0 where
-    pub rest : List ℕ
-    pub whole : Element
-    pub spells : Spells f (s ++ rest) whole
-    pub some-read : 0 < length s
-    pub some-left : 0 < length rest
-
   left-over : {s : List ℕ} (t : List ℕ) {e : Element} → Spells f (s ++ t) e → Refuses f s 4 (length s) → 0 < length t
   left-over {s} [] {e} h k =
       let p = spelt-head h in
@@ -163,7 +156,7 @@ module _ (f : Form) where
       absurd (omega arith)
   read-some (x ∷ s) r d k = omega arith
 
-  is-cut : (s : List ℕ) → Refuses f s 4 (length s) → Cut-short s
+  is-cut : (s : List ℕ) → Refuses f s 4 (length s) → Cut-short f s
   is-cut s k =
       let c : Continues f s = rw (take-length s) at (before-deciding k) in
       record { rest = c .0; whole = c .1; spells = c .2; some-read = read-some s 4 (length s) k; some-left = left-over (c .0) (c .2) k }
@@ -171,7 +164,7 @@ module _ (f : Form) where
   whole-again : (s t : List ℕ) (d : ℕ) → take (suc d) s ++ (drop (suc d) s ++ t) ≡ s ++ t
   whole-again s t d = sym (append-assoc (take (suc d) s) (drop (suc d) s) t) ∙ ap (λ (x : List ℕ). x ++ t) (take-append-drop (suc d) s)
 
-  cut-by : (s : List ℕ) → Cut-short s → (h : Head Element) → headIn f s ≡ h → Refuses f s 4 (length s)
+  cut-by : (s : List ℕ) → Cut-short f s → (h : Head Element) → headIn f s ≡ h → Refuses f s 4 (length s)
   cut-by s c (element e k) q =
       let b = reads f .found s e k q in
       let p = reads f .finds (b .front) (b .rest ++ c .rest) e (b .spells) in
@@ -200,5 +193,5 @@ module _ (f : Form) where
           omega arith
   cut-by s c none q = absurd (omega (arith, ap length (reads f .goes s q), c .some-read))
 
-  pub cut-exactly : (s : List ℕ) → Refuses f s 4 (length s) ↔ Cut-short s
+  pub cut-exactly : (s : List ℕ) → Refuses f s 4 (length s) ↔ Cut-short f s
   cut-exactly s = (is-cut s, λ c. cut-by s c (headIn f s) refl)

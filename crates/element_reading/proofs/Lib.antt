@@ -3,4 +3,5 @@ pub mod Deciding
 mod Steps
 pub mod Sizes
 pub mod Places
+pub mod NumbersExactly
 pub mod OneAnswer

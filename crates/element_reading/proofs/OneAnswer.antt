@@ -2,9 +2,11 @@
 -- Assumes nothing.
 use Prim.Native.Nat.{ℕ}
 use mathlib.Core.List.{List}
-use Rattle.run.proofs.OneAnswer.{Once, once}
+use Rattle.run.specs.OneAnswer.{Once}
+use Rattle.run.proofs.OneAnswer.{once}
 use Rattle.sorts.specs.declared.Form.{Form}
-use Rattle.element_reading.specs.Reading.{stepAt}
+use Rattle.element_reading.specs.ElementHead.{stepAt}
+use Rattle.element_reading.specs.Promises.{ElementAtPromise}
 
-pub table : (form : Form) (text : List ℕ) (at : ℕ) → Once (stepAt form text at)  -- element_at
-table form text at = once (stepAt form text at)
+pub one-answer : (form : Form) (text : List ℕ) (at : ℕ) → Once (ElementAtPromise form text at)
+one-answer form text at = once (ElementAtPromise form text at) (stepAt form text at) (λ r p. p .0)

@@ -4,20 +4,17 @@ use Prim.Native.Nat.{ℕ, _+_, _-_, _≤_, _<_}
 use mathlib.Core.Path.{_≡_, refl, ap, _∙_}
 use mathlib.Core.List.{List, [], _∷_}
 use native.Mathlib.Omega.{arith}
-use lib.ListN.{length, drop, length-append, length-drop, drop-of-length-le}
+use lib.ListN.{length, drop, length-append, length-drop}
 use lib.Dec.{lit≤}
+use Rattle.element_reading.specs.ElementNumbers.{InsideText}
 use Rattle.run.specs.Head.{Head, element, refused, none}
 use Rattle.run.specs.Grammar.{Begins}
-use Rattle.run.specs.Answers.{answer}
 use Rattle.sorts.specs.declared.Form.{Form}
 use Rattle.sequence_reading.specs.Grammar.{RefusesSequence}
 use Rattle.element_words.specs.declared.Element.{Element}
-use Rattle.element_reading.specs.declared.Step.{Step}
-use Rattle.element_reading.specs.declared.Step.the-variants.{Element as Read, Refused as Stopped, End}
-use Rattle.element_words.specs.Words.{wordsOf}
 use Rattle.element_reading.specs.Grammar.{Spells, Refuses}
-use Rattle.element_reading.specs.Reading.{headIn, stepOf, stepAt, stepAnswer}
-use Rattle.element_reading.proofs.Reader.{reads, refuses-exactly-by, begins-head}
+use Rattle.element_reading.specs.ElementHead.{headIn, stepOf, stepAt}
+use Rattle.element_reading.proofs.Reader.{reads, refuses-exactly-by}
 
 sequence-number : {s : List ℕ} {r d : ℕ} → RefusesSequence s r d → (1 ≤ r) × (r ≤ 8)
 sequence-number (RefusesSequence.ends i) = (lit≤ tt, lit≤ tt)
@@ -56,20 +53,14 @@ module _ (f : Form) where
   refused-some [] r d q = let e = reads f .ends in let w : _≡_ {A = ℕ} 0 1 = cc in absurd (omega arith)
   refused-some (o ∷ s) r d q = omega arith
 
-  -- a step goes on, inside the text; a refusal stands at the place asked for, its deciding octet in the text or at its end
-  abbrev pub Inside : List ℕ → ℕ → Step → Type 0
-  Inside text at (Read e next) = (at < next) × (next ≤ length text)
-  Inside text at (Stopped r p d) = (0 < r) × (p ≡ at) × (at < length text) × (at ≤ d) × (d ≤ length text)
-  Inside text at End = length text ≤ at
-
-  pub step-inside : (text : List ℕ) (at : ℕ) → Inside text at (stepAt f text at)
+  pub step-inside : (text : List ℕ) (at : ℕ) → InsideText text at (stepAt f text at)
   unfolding stepAt
   step-inside text at = go (headIn f (drop at text)) refl
     where
       l : length (drop at text) ≡ length text - at
       l = length-drop at text
 
-      go : (h : Head Element) → headIn f (drop at text) ≡ h → Inside text at (stepOf at h)
+      go : (h : Head Element) → headIn f (drop at text) ≡ h → InsideText text at (stepOf at h)
       go (element e k) q =
           let b = reads f .found (drop at text) e k q in
           let z : length (drop at text) ≡ length (b .front) + length (b .rest) =
@@ -82,21 +73,3 @@ module _ (f : Form) where
           let s = refused-some (drop at text) r d q in
           (reads f .numbered (drop at text) r d q, refl, omega (arith, l), omega arith, omega (arith, l))
       go none q = let z : length (drop at text) ≡ 0 = ap length (reads f .goes (drop at text) q) in omega (arith, l)
-
-  -- ---- the four numbers of a step, as document 01 has them
-
-  pub element-answer : (text : List ℕ) (at : ℕ) (e : Element) (k : ℕ) → Begins (Spells f) (drop at text) e k
-      → stepAnswer (stepAt f text at) ≡ answer 0 1 (at + k) (length (wordsOf e))
-  unfolding stepAt
-  element-answer text at e k b = ap (λ (h : Head Element). stepAnswer (stepOf at h)) (begins-head f b)
-
-  pub refusal-answer : (text : List ℕ) (at r d : ℕ) → Refuses f (drop at text) r d → stepAnswer (stepAt f text at) ≡ answer r 0 at (at + d)
-  unfolding stepAt
-  refusal-answer text at r d h = ap (λ (h : Head Element). stepAnswer (stepOf at h)) (refuses-exactly-by f (drop at text) r d .1 h)
-
-  -- "Asked at or past the end of the text, it answers that none is left."
-  pub end-answer : (text : List ℕ) (at : ℕ) → length text ≤ at → stepAnswer (stepAt f text at) ≡ answer 0 0 0 0
-  unfolding stepAt
-  end-answer text at h =
-      ap (λ (u : List ℕ). stepAnswer (stepOf at (headIn f u))) (drop-of-length-le text h)
-      ∙ ap (λ (h : Head Element). stepAnswer (stepOf at h)) (reads f .ends)

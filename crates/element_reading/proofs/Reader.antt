@@ -17,19 +17,19 @@ use Rattle.sorts.specs.declared.Sort.the-variants.{Graphic, Mark, Underline, Sh
 use Rattle.sorts.specs.declared.Found.{Found}
 use Rattle.sorts.specs.declared.Found.the-variants.{Char, Nothing}
 use Rattle.squares.specs.Squares.{squareOf}
-use Rattle.sorts.specs.Sorts.{sortIn, shiftedIn, sortNumber}
+use Rattle.sorts.specs.Sorts.{sortIn, shiftedIn, sortNumber, AfterShift}
 use Rattle.squares.proofs.SquareFacts.{follower-sorts}
-use Rattle.sorts.proofs.SortFacts.{sequence-is, refused-numbers, AfterShift, after-shift}
-use Rattle.sequence_reading.specs.Kinds.{CSI}
+use Rattle.sorts.proofs.SortFacts.{sequence-is, refused-numbers, after-shift}
+use Rattle.sorts.specs.Forms.{CSI}
 use Rattle.sequence_reading.specs.Grammar.{Sequence, SpellsSequence, RefusesSequence}
-use Rattle.sequence_reading.specs.Reading.{sequenceHead}
+use Rattle.sequence_reading.specs.SequenceHead.{sequenceHead}
 use Rattle.sequence_reading.proofs.Reader.{sequence-reads, refuses-exactly}
 use Rattle.element_words.specs.declared.Element.{Element}
 use Rattle.element_words.specs.declared.Element.the-variants.{One}
 use Rattle.element_words.specs.Words.{graphicWord, sequenceElement}
-use Rattle.element_reading.specs.Grammar.{Awaits, Spells, MayNot, Refuses}
-use Rattle.element_reading.specs.Reading.{highOr, pairHead, followerHead, secondSort, shiftedHead, underlinedHead, asElement}
-use Rattle.element_reading.specs.Reading.{headSort, headIn}
+use Rattle.element_reading.specs.Grammar.{Awaits, Spells, MayNot, Refuses, One-of-three, an-element, a-refusal, the-end}
+use Rattle.element_reading.specs.ElementHead.{highOr, pairHead, followerHead, secondSort, shiftedHead, underlinedHead, asElement}
+use Rattle.element_reading.specs.ElementHead.{headSort, headIn}
 
 -- a number is this one, or not
 pub is-or : (k n : ℕ) → (n ≡ k) ⊎ (n ≡ k → ⊥)
@@ -289,17 +289,12 @@ module _ (f : Form) where
   refuses-exactly-by s r d = (stopped (view s) r d, refuses)
 
   -- At every place exactly one of the three holds: an element, a refusal, the end.
-  pub data One-of-three (s : List ℕ) : Type 0 where
-    an-element : {e : Element} {k : ℕ} → Begins (Spells f) s e k → One-of-three s
-    a-refusal : {r d : ℕ} → Refuses f s r d → One-of-three s
-    the-end : s ≡ [] → One-of-three s
-
-  one-by : (s : List ℕ) (h : Head Element) → headIn f s ≡ h → One-of-three s
+  one-by : (s : List ℕ) (h : Head Element) → headIn f s ≡ h → One-of-three f s
   one-by s (element e k) q = an-element (reads .found s e k q)
   one-by s (refused r d) q = a-refusal (refuses-exactly-by s r d .0 q)
   one-by s none q = the-end (reads .goes s q)
 
-  pub one-of-three : (s : List ℕ) → One-of-three s
+  pub one-of-three : (s : List ℕ) → One-of-three f s
   one-of-three s = one-by s (headIn f s) refl
 
   -- the reader gives what begins the list

@@ -8,7 +8,7 @@ use lib.Dec.{lit≤}
 use lib.ListN.{length, length-append, length-take}
 use Rattle.sorts.specs.declared.Form.{Form}
 use Rattle.sequence_reading.specs.Grammar.{Sequence, Parameters, SpellsSequence}
-use Rattle.sequence_reading.specs.Reading.{valuesOf, listOf}
+use Rattle.sequence_reading.specs.EightValues.{valuesOf, listOf}
 use Rattle.element_words.specs.declared.Element.{Element}
 use Rattle.element_reading.specs.Grammar.{Spells}
 use Rattle.element_words.specs.Words.{wordsOf}

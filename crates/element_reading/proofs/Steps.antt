@@ -23,17 +23,19 @@ use Rattle.element_words.specs.declared.Element.the-variants.{One, Sequence as 
 use Rattle.sequence_reading.specs.declared.Values.{Values}
 use Rattle.sequence_reading.specs.declared.Reading.the-variants.{Whole, Refused as Bad, End as NoMore}
 use Rattle.sequence_reading.specs.Grammar.{Sequence}
-use Rattle.sequence_reading.specs.Reading.{sequenceHead, valuesOf, readingOf, readingAt}
+use Rattle.sequence_reading.specs.EightValues.{valuesOf}
+use Rattle.sequence_reading.specs.SequenceHead.{sequenceHead, readingOf, readingAt}
 use Rattle.sequence_reading.proofs.Reader.{read-eight}
 use Rattle.element_reading.specs.declared.Step.the-variants.{Element as Read, Refused as Stopped, End}
-use Rattle.element_words.specs.Words.{graphicWord, headWord}
-use Rattle.element_reading.specs.Reading.{highOr, pairHead, followerHead, secondSort, secondHead, asElement}
-use Rattle.element_reading.specs.Reading.{headSort, headIn, stepOf, stepAt}
+use Rattle.element_words.specs.Words.{sequencesFrom}
+use Rattle.element_words.specs.Words.{graphicWord, controlWord, headWord}
+use Rattle.element_reading.specs.ElementHead.{highOr, pairHead, followerHead, secondSort, secondHead, asElement}
+use Rattle.element_reading.specs.ElementHead.{headSort, headIn, stepOf, stepAt}
 
 -- ---- a control sequence
 module _ (at : ℕ) where
   whole-by : (h : Head Sequence) (m l n k w : ℕ) (vs : Values) → readingOf at h ≡ Whole m l n vs k
-      → w ≡ 0x4000000 + 0x10000 * m + 0x100 * l + n → Read (SequenceOf w n vs) k ≡ stepOf at (asElement h)
+      → w ≡ sequencesFrom + 0x10000 * m + 0x100 * l + n → Read (SequenceOf w n vs) k ≡ stepOf at (asElement h)
   whole-by (element q j) m l n k w vs e z =
       let em : q .middle ≡ m = cc in
       let el : q .last ≡ l = cc in
@@ -61,7 +63,8 @@ module _ (at : ℕ) where
   count-by s none z m l n k vs e = let y : _≡_ {A = ℕ} 0 1 = cc in absurd (omega arith)
 
   module _ (text : List ℕ) where
-    pub sequence-whole : (m l n k w : ℕ) (vs : Values) → readingAt text at ≡ Whole m l n vs k → w ≡ 0x4000000 + 0x10000 * m + 0x100 * l + n
+    pub sequence-whole : (m l n k w : ℕ) (vs : Values) → readingAt text at ≡ Whole m l n vs k
+        → w ≡ sequencesFrom + 0x10000 * m + 0x100 * l + n
         → Read (SequenceOf w n vs) k ≡ stepOf at (asElement (sequenceHead (drop at text)))
     unfolding readingAt
     sequence-whole m l n k w vs e z = whole-by (sequenceHead (drop at text)) m l n k w vs e z
@@ -169,6 +172,10 @@ module _ (f : Form) (text : List ℕ) where
     first-here s h e =
         sym (ap (λ (l : List ℕ). stepOf at (headIn f l)) (at-place text at h)
         ∙ ap (λ (x : Sort). stepOf at (headSort f x (getD text at 0) (drop (at + 1) text))) e)
+
+    pub control-here : (w : ℕ) → at < length text → sortIn f (getD text at 0) ≡ Control → w ≡ controlWord (getD text at 0)
+        → Read (One w) (at + 1) ≡ stepAt f text at
+    control-here w h e q = ap (λ (k : ℕ). Read (One k) (at + 1)) q ∙ first-here Control h e
 
     pub refused-here : (n : ℕ) → at < length text → sortIn f (getD text at 0) ≡ Refused n → Stopped n at at ≡ stepAt f text at
     refused-here n h e = ap (Stopped n at) (sym (add-zero at)) ∙ first-here (Refused n) h e

@@ -2,11 +2,12 @@
 -- with which number at which octet. Nothing here speaks of a reader. What an octet is in a form is `sortIn` of crate `sorts`, and after
 -- SS2 `shiftedIn`.
 -- Assumes nothing.
-use Prim.Native.Nat.{ℕ}
+use Prim.Native.Nat.{ℕ, _<_}
 use mathlib.Core.Path.{_≡_}
 use mathlib.Core.Bool.{Bool, true, false}
 use mathlib.Core.List.{List, [], _∷_, _++_}
 use lib.ListN.{length}
+use Rattle.run.specs.Grammar.{Begins}
 use Rattle.sorts.specs.declared.Form.{Form}
 use Rattle.sorts.specs.declared.Sort.{Sort}
 use Rattle.sorts.specs.declared.Sort.the-variants.{Graphic, Mark, Underline, Shift, Control, SequenceStart, Refused}
@@ -80,3 +81,17 @@ pub data Refuses (f : Form) : List ℕ → ℕ → ℕ → Type 0 where
 -- these octets can be continued to an element
 abbrev pub Continues : Form → List ℕ → Type 0
 Continues f s = (t : List ℕ) × (e : Element) × Spells f (s ++ t) e
+
+-- at a place stands an element, or a refusal, or the end
+pub data One-of-three (f : Form) (s : List ℕ) : Type 0 where
+  an-element : {e : Element} {k : ℕ} → Begins (Spells f) s e k → One-of-three f s
+  a-refusal : {r d : ℕ} → Refuses f s r d → One-of-three f s
+  the-end : s ≡ [] → One-of-three f s
+
+-- these octets are the beginning of an element, and not all of it
+pub record Cut-short (f : Form) (s : List ℕ) : Type 0 where
+  pub rest : List ℕ
+  pub whole : Element
+  pub spells : Spells f (s ++ rest) whole
+  pub some-read : 0 < length s
+  pub some-left : 0 < length rest

@@ -1,2 +1,4 @@
 pub mod Grammar
-pub mod Reading
+pub mod ElementHead
+pub mod ElementNumbers
+pub mod Promises

@@ -8,11 +8,11 @@ ghost use mathlib.Core.Path.{_≡_};
 ghost use Prim.Native.Nat.{ℕ, _+_, _-_, _*_, _≤_, _<_};
 ghost use lib.ListN.{length, drop};
 ghost use Rattle.sorts.specs.declared.Sort.the-variants.{Graphic};
-ghost use Rattle.sequence_reading.specs.Reading.{sequenceHead};
-ghost use Rattle.element_words.specs.Words.{graphicWord};
+ghost use Rattle.sequence_reading.specs.SequenceHead.{sequenceHead};
+ghost use Rattle.element_words.specs.Words.{sequencesFrom, graphicWord};
 ghost use Rattle.element_reading.specs.declared.Step.the-variants.{Refused as Stopped};
-ghost use Rattle.element_reading.specs.Reading.{highOr, followerHead, secondSort, shiftedHead, underlinedHead, asElement};
-ghost use Rattle.element_reading.specs.Reading.{stepOf, stepAt};
+ghost use Rattle.element_reading.specs.ElementHead.{highOr, followerHead, secondSort, shiftedHead, underlinedHead, asElement, stepOf};
+ghost use Rattle.element_reading.specs.Promises.{ElementAtPromise};
 
 // What stands at a place.
 pub enum Step {
@@ -34,7 +34,7 @@ fn graphic_word(under: bool, c: u32) -> u32
     ensures { λ r. ⌜ r ≡ graphicWord under c ⌝ }
 {
     if under {
-        return 0x1000000 + c;
+        return element_words::UNDERLINED_FROM + c;
     }
     c
 }
@@ -120,9 +120,9 @@ fn underline_step(form: Form, text: &[u8], at: usize) -> Step
 // 01: "Sequence: 2^26 + 65536 x intermediate (0 if none) + 256 x final + number of values".
 fn head_word(middle: u8, last: u8, count: usize) -> u32
     requires { ⌜ count ≤ 8 ⌝ }
-    ensures { λ r. ⌜ r ≡ 0x4000000 + 0x10000 * middle + 0x100 * last + count ⌝ }
+    ensures { λ r. ⌜ r ≡ sequencesFrom + 0x10000 * middle + 0x100 * last + count ⌝ }
 {
-    0x4000000 + 0x10000 * (middle as u32) + 0x100 * (last as u32) + count as u32
+    element_words::SEQUENCES_FROM + 0x10000 * (middle as u32) + 0x100 * (last as u32) + count as u32
 }
 
 // The control sequence at `at`.
@@ -153,7 +153,7 @@ fn sequence_step(text: &[u8], at: usize) -> Step
 // Reads the element at a place. 01: "Each element read answers with the element and the place after it, or with its refusal .. Asked at or
 // past the end of the text, it answers that none is left."
 pub fn element_at(form: Form, text: &[u8], at: usize) -> Step
-    ensures { λ r. ⌜ r ≡ stepAt form (now (text .entry)) at ⌝ }
+    ensures { λ r. ⌜ ElementAtPromise form (now (text .entry)) at r ⌝ }
 {
     if text.len() <= at {
         return Step::End;
@@ -165,7 +165,10 @@ pub fn element_at(form: Form, text: &[u8], at: usize) -> Step
         Sort::Mark(m) => follower_step(form, m, false, text, at, at + 1),
         Sort::Underline => underline_step(form, text, at),
         Sort::Shift => shift_step(form, text, at),
-        Sort::Control => Step::Element(Element::One(0x2000000 + o as u32), at + 1),
+        Sort::Control => Step::Element(
+            Element::One(element_words::CONTROLS_FROM + o as u32),
+            at + 1,
+        ),
         Sort::SequenceStart => sequence_step(text, at),
         Sort::Refused(n) => refused_at(n, at, at),
     }

@@ -3,13 +3,14 @@
 use Prim.Native.Nat.{ℕ}
 use mathlib.Core.List.{List}
 use lib.ListN.{length}
-use Rattle.run.specs.Put.{whatFits}
-use Rattle.run.proofs.OneAnswer.{Once, once, Once-put, once-put}
+use Rattle.run.specs.OneAnswer.{Once, OnceBoth}
+use Rattle.run.proofs.OneAnswer.{once, once-put}
 use Rattle.sorts.specs.declared.Form.{Form}
 use Rattle.element_words.specs.declared.Element.{Element}
 use Rattle.element_spelling.specs.ElementOctets.{spellElement}
+use Rattle.element_spelling.specs.Promises.{SpeltSizePromise, PutSpellingPromise}
 
-pub table : (form : Form) (at : ℕ) (e : Element) (out : List ℕ)
-    → Once (length (spellElement form e))  -- spelt_size
-    × Once-put out at (whatFits out at (spellElement form e))  -- put_spelling
-table form at e out = (once (length (spellElement form e)), once-put out at (whatFits out at (spellElement form e)))
+pub one-answer : (form : Form) (e : Element) (out : List ℕ) (at : ℕ)
+    → Once (SpeltSizePromise form e)
+    × OnceBoth (PutSpellingPromise form e out at)
+one-answer form e out at = (once (SpeltSizePromise form e) (length (spellElement form e)) (λ r p. p), once-put out at _)

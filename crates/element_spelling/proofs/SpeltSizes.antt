@@ -12,14 +12,15 @@ use Rattle.spelling.specs.declared.Spelling.the-variants.{One as Single, Shifte
 use Rattle.sorts.specs.Sorts.{sortIn}
 use Rattle.spelling.specs.CanonicalSpelling.{octetsOf}
 use Rattle.spelling.specs.SpellingGiven.{spellIn}
-use Rattle.sequence_reading.specs.Kinds.{CSI}
-use Rattle.sequence_reading.specs.Reading.{listOf}
+use Rattle.sorts.specs.Forms.{CC, CSI}
+use Rattle.sequence_reading.specs.EightValues.{listOf}
 use Rattle.sequence_spelling.proofs.Exactly.{size-34}
 use Rattle.element_words.specs.declared.Element.{Element}
 use Rattle.element_words.specs.declared.Element.the-variants.{One, Sequence as SequenceOf}
+use Rattle.element_words.specs.Words.{underlinedFrom, controlsFrom, sequencesFrom}
 use Rattle.element_words.specs.Words.{isSequence}
 use Rattle.element_words.proofs.HeadWords.{sequence-fine}
-use Rattle.element_spelling.specs.ElementOctets.{CC, sortTag, afterCC, spellWord, spellSequenceWords, spellElement}
+use Rattle.element_spelling.specs.ElementOctets.{sortTag, afterCC, spellWord, spellSequenceWords, spellElement}
 
 abbrev Short : List ℕ → Type 0
 Short s = length s ≤ 34
@@ -42,12 +43,12 @@ after-few (o ∷ s) h = omega arith
 module _ (f : Form) where
   word-short : (w : ℕ) → Short (spellWord f w)
   word-short w =
-      pick-case Short (ltb w 0x1000000) _ _ (λ t. octets-short (spellIn f w))
-      (λ a. pick-case Short (ltb w 0x2000000) _ _
+      pick-case Short (ltb w underlinedFrom) _ _ (λ t. octets-short (spellIn f w))
+      (λ a. pick-case Short (ltb w controlsFrom) _ _
       (λ t. pick-case Short (eqb (sortTag (sortIn f CC)) 1) _ _
-      (λ t. after-few (octetsOf (spellIn f (w - 0x1000000))) (octets-few (spellIn f (w - 0x1000000)))) (λ t. lit≤ tt))
-      (λ b. pick-case Short (ltb w 0x4000000) _ _
-      (λ t. pick-case Short (eqb (sortTag (sortIn f (w - 0x2000000))) 3) _ _ (λ t. lit≤ tt) (λ t. lit≤ tt))
+      (λ t. after-few (octetsOf (spellIn f (w - underlinedFrom))) (octets-few (spellIn f (w - underlinedFrom)))) (λ t. lit≤ tt))
+      (λ b. pick-case Short (ltb w sequencesFrom) _ _
+      (λ t. pick-case Short (eqb (sortTag (sortIn f (w - controlsFrom))) 3) _ _ (λ t. lit≤ tt) (λ t. lit≤ tt))
       (λ c. lit≤ tt)))
 
   sequence-short : (h : ℕ) (vs : List ℕ) → Short (spellSequenceWords f h vs)

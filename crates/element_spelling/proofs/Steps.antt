@@ -21,16 +21,17 @@ use Rattle.spelling.specs.CanonicalSpelling.{octetsOf}
 use Rattle.spelling.specs.SpellingGiven.{spellIn}
 use Rattle.sorts.proofs.SortFacts.{control-small}
 use Rattle.sequence_reading.specs.declared.Values.{Values}
-use Rattle.sequence_reading.specs.Kinds.{CSI}
-use Rattle.sequence_reading.specs.Reading.{listOf}
+use Rattle.sorts.specs.Forms.{CC, CSI}
+use Rattle.sequence_reading.specs.EightValues.{listOf}
 use Rattle.sequence_spelling.specs.SequenceOctets.{isFine, spellSequence, sizeOf, putSequence}
 use Rattle.sequence_spelling.proofs.Exactly.{fine-test}
 use Rattle.element_words.specs.declared.Element.{Element}
 use Rattle.element_words.specs.declared.Element.the-variants.{One, Sequence as SequenceOf}
+use Rattle.element_words.specs.Words.{underlinedFrom, controlsFrom, sequencesFrom}
 use Rattle.element_words.specs.Words.{sequenceOf, isSequence}
 use Rattle.element_words.proofs.Words.{kept-values}
 use Rattle.element_words.proofs.HeadWords.{is-true}
-use Rattle.element_spelling.specs.ElementOctets.{CC, sortTag, afterCC, spellWord, spellSequenceWords, spellElement, wordSpelling}
+use Rattle.element_spelling.specs.ElementOctets.{sortTag, afterCC, spellWord, spellSequenceWords, spellElement, wordSpelling}
 use Rattle.element_spelling.specs.ElementOctets.{isUnderlined}
 
 -- ---- the sorts that carry nothing, from their numbers
@@ -78,51 +79,53 @@ one-more x n e = omega (arith, octets-few x)
 
 -- ---- a word, by its range
 
-pub under-low : (w : ℕ) → w < 0x1000000 → false ≡ isUnderlined w
-under-low w h = rw (lt-ltb w 0x1000000 h)
+pub under-low : (w : ℕ) → w < underlinedFrom → false ≡ isUnderlined w
+under-low w h = rw (lt-ltb w underlinedFrom h)
 
-pub under-high : (w : ℕ) → 0x1000000 ≤ w → ltb w 0x2000000 ≡ isUnderlined w
-under-high w h = rw (le-ltb w 0x1000000 h)
+pub under-high : (w : ℕ) → underlinedFrom ≤ w → ltb w controlsFrom ≡ isUnderlined w
+under-high w h = rw (le-ltb w underlinedFrom h)
 
 either-way : {A : Type 0} (x : A) (b : Bool) → pick b x x ≡ x
 either-way x true = refl
 either-way x false = refl
 
 module _ (f : Form) (w : ℕ) where
-  pub word-character : w < 0x1000000 → wordSpelling f w ≡ spellIn f w
-  word-character h = rw (lt-ltb w 0x1000000 h)
+  pub word-character : w < underlinedFrom → wordSpelling f w ≡ spellIn f w
+  word-character h = rw (lt-ltb w underlinedFrom h)
 
-  pub word-underlined : 0x1000000 ≤ w → w < 0x2000000 → sortTag (sortIn f CC) ≡ 1 → wordSpelling f w ≡ spellIn f (w - 0x1000000)
-  word-underlined a b e = rw (le-ltb w 0x1000000 a, lt-ltb w 0x2000000 b, eq-eqb (sortTag (sortIn f CC)) 1 e)
+  pub word-underlined : underlinedFrom ≤ w → w < controlsFrom → sortTag (sortIn f CC) ≡ 1
+      → wordSpelling f w ≡ spellIn f (w - underlinedFrom)
+  word-underlined a b e = rw (le-ltb w underlinedFrom a, lt-ltb w controlsFrom b, eq-eqb (sortTag (sortIn f CC)) 1 e)
 
-  pub word-no-underline : 0x1000000 ≤ w → w < 0x2000000 → (sortTag (sortIn f CC) ≡ 1 → ⊥) → wordSpelling f w ≡ Unspelt
-  word-no-underline a b n = rw (le-ltb w 0x1000000 a, lt-ltb w 0x2000000 b, ne-eqb (sortTag (sortIn f CC)) 1 n)
+  pub word-no-underline : underlinedFrom ≤ w → w < controlsFrom → (sortTag (sortIn f CC) ≡ 1 → ⊥) → wordSpelling f w ≡ Unspelt
+  word-no-underline a b n = rw (le-ltb w underlinedFrom a, lt-ltb w controlsFrom b, ne-eqb (sortTag (sortIn f CC)) 1 n)
 
-  pub word-control : 0x2000000 ≤ w → w < 0x2000100 → sortTag (sortIn f (w - 0x2000000)) ≡ 3 → wordSpelling f w ≡ Single (w - 0x2000000)
+  pub word-control : controlsFrom ≤ w → w < controlsFrom + 0x100 → sortTag (sortIn f (w - controlsFrom)) ≡ 3
+      → wordSpelling f w ≡ Single (w - controlsFrom)
   word-control a b e =
       rw (
-        le-ltb w 0x1000000 (omega arith),
-        le-ltb w 0x2000000 a,
-        lt-ltb w 0x4000000 (omega arith),
-        eq-eqb (sortTag (sortIn f (w - 0x2000000))) 3 e,
+        le-ltb w underlinedFrom (omega arith),
+        le-ltb w controlsFrom a,
+        lt-ltb w sequencesFrom (omega arith),
+        eq-eqb (sortTag (sortIn f (w - controlsFrom))) 3 e,
       )
 
-  pub word-no-control : 0x2000000 ≤ w → (sortTag (sortIn f (w - 0x2000000)) ≡ 3 → ⊥) → wordSpelling f w ≡ Unspelt
+  pub word-no-control : controlsFrom ≤ w → (sortTag (sortIn f (w - controlsFrom)) ≡ 3 → ⊥) → wordSpelling f w ≡ Unspelt
   word-no-control a n =
-      rw (le-ltb w 0x1000000 (omega arith), le-ltb w 0x2000000 a, ne-eqb (sortTag (sortIn f (w - 0x2000000))) 3 n)
-      (either-way Unspelt (ltb w 0x4000000))
+      rw (le-ltb w underlinedFrom (omega arith), le-ltb w controlsFrom a, ne-eqb (sortTag (sortIn f (w - controlsFrom))) 3 n)
+      (either-way Unspelt (ltb w sequencesFrom))
 
-  pub word-high : 0x2000100 ≤ w → wordSpelling f w ≡ Unspelt
-  word-high a = word-no-control (omega arith) (λ e. omega (arith, control-octet f (w - 0x2000000) e))
+  pub word-high : controlsFrom + 0x100 ≤ w → wordSpelling f w ≡ Unspelt
+  word-high a = word-no-control (omega arith) (λ e. omega (arith, control-octet f (w - controlsFrom) e))
 
   -- the spelling is the word's, after CC if it is underlined
   parts : (a b c u k : Bool)
       → (let x =
       pick a (spellIn f w)
-      (pick b (pick u (spellIn f (w - 0x1000000)) Unspelt) (pick c (pick k (Single (w - 0x2000000)) Unspelt) Unspelt)) in
+      (pick b (pick u (spellIn f (w - underlinedFrom)) Unspelt) (pick c (pick k (Single (w - controlsFrom)) Unspelt) Unspelt)) in
       pick (pick a false b) (afterCC (octetsOf x)) (octetsOf x))
       ≡ pick a (octetsOf (spellIn f w))
-      (pick b (pick u (afterCC (octetsOf (spellIn f (w - 0x1000000)))) []) (pick c (pick k ((w - 0x2000000) ∷ []) []) []))
+      (pick b (pick u (afterCC (octetsOf (spellIn f (w - underlinedFrom)))) []) (pick c (pick k ((w - controlsFrom) ∷ []) []) []))
   parts true b c u k = refl
   parts false true c true k = refl
   parts false true c false k = refl
@@ -132,8 +135,8 @@ module _ (f : Form) (w : ℕ) where
 
   spell-word : pick (isUnderlined w) (afterCC (octetsOf (wordSpelling f w))) (octetsOf (wordSpelling f w)) ≡ spellWord f w
   spell-word =
-      parts (ltb w 0x1000000) (ltb w 0x2000000) (ltb w 0x4000000) (eqb (sortTag (sortIn f CC)) 1)
-      (eqb (sortTag (sortIn f (w - 0x2000000))) 3)
+      parts (ltb w underlinedFrom) (ltb w controlsFrom) (ltb w sequencesFrom) (eqb (sortTag (sortIn f CC)) 1)
+      (eqb (sortTag (sortIn f (w - controlsFrom))) 3)
 
   pub spell-bare : isUnderlined w ≡ false → spellWord f w ≡ octetsOf (wordSpelling f w)
   spell-bare e = sym spell-word ∙ ap (λ (b : Bool). pick b (afterCC (octetsOf (wordSpelling f w))) (octetsOf (wordSpelling f w))) e

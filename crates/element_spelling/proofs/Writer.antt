@@ -13,21 +13,20 @@ use borrow.Author.Tests.{lt-ltb, le-ltb, ltb-false, eqb-true}
 use Rattle.run.specs.Choice.{pick}
 use Rattle.run.specs.Head.{Head, element, refused, none}
 use Rattle.run.specs.Grammar.{Reads}
-use Rattle.run.specs.Speller.{SpeltBy}
+use Rattle.run.specs.Speller.{SpeltBy, Why, by-head, not-spelt}
 use Rattle.run.proofs.Choices.{pick-case}
-use Rattle.run.proofs.Spellers.{reads-as, spelt-reads, Why, by-head, not-spelt, why}
+use Rattle.run.proofs.Spellers.{reads-as, spelt-reads, why}
 use Rattle.sorts.specs.declared.Form.{Form}
 use Rattle.sorts.specs.declared.Sort.the-variants.{Underline, Shift, Control}
 use Rattle.spelling.specs.declared.Spelling.{Spelling}
 use Rattle.spelling.specs.declared.Spelling.the-variants.{One as Single, Shifted, Pair, ShiftedPair, Unspelt}
-use Rattle.sorts.specs.Forms.{SS2}
+use Rattle.sorts.specs.Forms.{SS2, CC, CSI}
 use Rattle.sorts.specs.Sorts.{sortIn}
 use Rattle.spelling.specs.CanonicalSpelling.{octetsOf, Codes, Canonical}
 use Rattle.spelling.specs.SpellingGiven.{spellIn}
 use Rattle.spelling.proofs.CanonicalExactly.{exactly, reads-back, has-canonical}
 use Rattle.spelling.proofs.SpellingFacts.{code-point-small}
 use Rattle.sorts.proofs.SortFacts.{shift-is, underline-is, sequence-is, control-small}
-use Rattle.sequence_reading.specs.Kinds.{CSI}
 use Rattle.sequence_reading.specs.Grammar.{Sequence, SpellsSequence}
 use Rattle.sequence_spelling.specs.SequenceOctets.{Fine, CanonicalSequence, spellSequence}
 use Rattle.sequence_reading.proofs.Reader.{sequence-reads}
@@ -35,15 +34,17 @@ use Rattle.sequence_spelling.proofs.Back.{read-fine}
 use Rattle.sequence_spelling.proofs.Exactly.{canonical-exactly, spells-canonical}
 use Rattle.element_words.specs.declared.Element.{Element}
 use Rattle.element_words.specs.declared.Element.the-variants.{One}
+use Rattle.element_words.specs.Words.{underlinedFrom, controlsFrom, sequencesFrom}
 use Rattle.element_words.specs.Words.{graphicWord, controlWord, headWord, sequenceElement, wordsOf, Proper, Means, means, sequenceOf}
 use Rattle.element_words.specs.Words.{wordHead}
 use Rattle.element_reading.specs.Grammar.{Awaits, Spells}
-use Rattle.element_reading.specs.Reading.{headIn}
+use Rattle.element_reading.specs.ElementHead.{headIn}
 use Rattle.element_reading.proofs.Reader.{reads}
-use Rattle.element_spelling.specs.ElementOctets.{CC, CanonicalElement, Held, Writes, NoneHeld, sortTag, afterCC, spellWord}
+use Rattle.element_spelling.specs.ElementOctets.{CanonicalElement, Held, Writes, NoneHeld, sortTag, afterCC, spellWord}
 use Rattle.element_spelling.specs.ElementOctets.{spellSequenceWords, spellElement, spellHead}
 use Rattle.element_spelling.proofs.Steps.{tag-back}
-use Rattle.element_words.proofs.Words.{values-back, sequence-back, is-sequence, words-read, words-refused}
+use Rattle.sequence_reading.proofs.EightValues.{values-back}
+use Rattle.element_words.proofs.Words.{sequence-back, is-sequence, words-read, words-refused}
 
 -- ---- CC before a spelling
 
@@ -67,21 +68,22 @@ nothing-after x n e = n (ap (λ (y : Spelling). afterCC (octetsOf y)) e)
 module _ (f : Form) where
   -- ---- the words of each kind of element, spelt
 
-  spell-graphic : (c : ℕ) → c < 0x1000000 → spellWord f (graphicWord false c) ≡ octetsOf (spellIn f c)
-  spell-graphic c h = rw (lt-ltb c 0x1000000 h)
+  spell-graphic : (c : ℕ) → c < underlinedFrom → spellWord f (graphicWord false c) ≡ octetsOf (spellIn f c)
+  spell-graphic c h = rw (lt-ltb c underlinedFrom h)
 
-  spell-underlined : (c : ℕ) → c < 0x1000000 → sortIn f CC ≡ Underline → spellWord f (graphicWord true c) ≡ afterCC (octetsOf (spellIn f c))
+  spell-underlined : (c : ℕ) → c < underlinedFrom → sortIn f CC ≡ Underline
+      → spellWord f (graphicWord true c) ≡ afterCC (octetsOf (spellIn f c))
   spell-underlined c h s =
-      let w : 0x1000000 + c - 0x1000000 ≡ c = omega arith in
-      rw (le-ltb (0x1000000 + c) 0x1000000 (omega arith), lt-ltb (0x1000000 + c) 0x2000000 (omega arith), s, w)
+      let w : underlinedFrom + c - underlinedFrom ≡ c = omega arith in
+      rw (le-ltb (underlinedFrom + c) underlinedFrom (omega arith), lt-ltb (underlinedFrom + c) controlsFrom (omega arith), s, w)
 
-  spell-control : (o : ℕ) → o < 0x2000000 → sortIn f o ≡ Control → spellWord f (controlWord o) ≡ o ∷ []
+  spell-control : (o : ℕ) → o < controlsFrom → sortIn f o ≡ Control → spellWord f (controlWord o) ≡ o ∷ []
   spell-control o h s =
-      let w : 0x2000000 + o - 0x2000000 ≡ o = omega arith in
+      let w : controlsFrom + o - controlsFrom ≡ o = omega arith in
       rw (
-        le-ltb (0x2000000 + o) 0x1000000 (omega arith),
-        le-ltb (0x2000000 + o) 0x2000000 (omega arith),
-        lt-ltb (0x2000000 + o) 0x4000000 (omega arith),
+        le-ltb (controlsFrom + o) underlinedFrom (omega arith),
+        le-ltb (controlsFrom + o) controlsFrom (omega arith),
+        lt-ltb (controlsFrom + o) sequencesFrom (omega arith),
         w,
         s,
       )
@@ -95,7 +97,7 @@ module _ (f : Form) where
       (is-sequence q fine)
       ∙ ap (λ (r : Sequence). pick (eqb (sortTag (sortIn f CSI)) 4) (spellSequence r) []) (sequence-back q fine)
 
-  canonical-small : {c : ℕ} {x : Spelling} → Canonical f c x → c < 0x1000000
+  canonical-small : {c : ℕ} {x : Spelling} → Canonical f c x → c < underlinedFrom
   canonical-small {c} k = omega (arith, code-point-small f c (reads-back f c k))
 
   -- what is canonical is given
@@ -116,15 +118,15 @@ module _ (f : Form) where
   given-graphic : (w : ℕ) → Some (octetsOf (spellIn f w)) → CanonicalElement f (octetsOf (spellIn f w)) (One w)
   given-graphic w n = CanonicalElement.graphic (exactly f w (spellIn f w) .1 (refl, nothing-spelt (spellIn f w) n))
 
-  given-underlined : (w : ℕ) → 0x1000000 ≤ w
-      → Some (pick (eqb (sortTag (sortIn f CC)) 1) (afterCC (octetsOf (spellIn f (w - 0x1000000)))) [])
-      → CanonicalElement f (pick (eqb (sortTag (sortIn f CC)) 1) (afterCC (octetsOf (spellIn f (w - 0x1000000)))) []) (One w)
+  given-underlined : (w : ℕ) → underlinedFrom ≤ w
+      → Some (pick (eqb (sortTag (sortIn f CC)) 1) (afterCC (octetsOf (spellIn f (w - underlinedFrom)))) [])
+      → CanonicalElement f (pick (eqb (sortTag (sortIn f CC)) 1) (afterCC (octetsOf (spellIn f (w - underlinedFrom)))) []) (One w)
   given-underlined w h = go (eqb (sortTag (sortIn f CC)) 1) refl
     where
       x : Spelling
-      x = spellIn f (w - 0x1000000)
+      x = spellIn f (w - underlinedFrom)
 
-      c : 0x1000000 + (w - 0x1000000) ≡ w
+      c : underlinedFrom + (w - underlinedFrom) ≡ w
       c = omega arith
 
       go : (b : Bool) → eqb (sortTag (sortIn f CC)) 1 ≡ b → Some (pick b (afterCC (octetsOf x)) [])
@@ -133,22 +135,22 @@ module _ (f : Form) where
           let u : x ≡ Unspelt → ⊥ = nothing-after x n in
           subst₂ (λ (s : List ℕ) (v : ℕ). CanonicalElement f s (One v)) (sym (after-spelt x u)) c
           (CanonicalElement.underlined (tag-back (sortIn f CC) 1 (eqb-true (sortTag (sortIn f CC)) 1 e) (omega arith))
-          (exactly f (w - 0x1000000) x .1 (refl, u)))
+          (exactly f (w - underlinedFrom) x .1 (refl, u)))
       go false e n = absurd (n refl)
 
-  given-control : (w : ℕ) → 0x2000000 ≤ w → Some (pick (eqb (sortTag (sortIn f (w - 0x2000000))) 3) ((w - 0x2000000) ∷ []) [])
-      → CanonicalElement f (pick (eqb (sortTag (sortIn f (w - 0x2000000))) 3) ((w - 0x2000000) ∷ []) []) (One w)
-  given-control w h = go (eqb (sortTag (sortIn f (w - 0x2000000))) 3) refl
+  given-control : (w : ℕ) → controlsFrom ≤ w → Some (pick (eqb (sortTag (sortIn f (w - controlsFrom))) 3) ((w - controlsFrom) ∷ []) [])
+      → CanonicalElement f (pick (eqb (sortTag (sortIn f (w - controlsFrom))) 3) ((w - controlsFrom) ∷ []) []) (One w)
+  given-control w h = go (eqb (sortTag (sortIn f (w - controlsFrom))) 3) refl
     where
-      c : 0x2000000 + (w - 0x2000000) ≡ w
+      c : controlsFrom + (w - controlsFrom) ≡ w
       c = omega arith
 
-      go : (b : Bool) → eqb (sortTag (sortIn f (w - 0x2000000))) 3 ≡ b → Some (pick b ((w - 0x2000000) ∷ []) [])
-          → CanonicalElement f (pick b ((w - 0x2000000) ∷ []) []) (One w)
+      go : (b : Bool) → eqb (sortTag (sortIn f (w - controlsFrom))) 3 ≡ b → Some (pick b ((w - controlsFrom) ∷ []) [])
+          → CanonicalElement f (pick b ((w - controlsFrom) ∷ []) []) (One w)
       go true e n =
-          subst (λ (v : ℕ). CanonicalElement f ((w - 0x2000000) ∷ []) (One v)) c
+          subst (λ (v : ℕ). CanonicalElement f ((w - controlsFrom) ∷ []) (One v)) c
           (CanonicalElement.control
-          (tag-back (sortIn f (w - 0x2000000)) 3 (eqb-true (sortTag (sortIn f (w - 0x2000000))) 3 e) (omega arith)))
+          (tag-back (sortIn f (w - controlsFrom)) 3 (eqb-true (sortTag (sortIn f (w - controlsFrom))) 3 e) (omega arith)))
       go false e n = absurd (n refl)
 
   abbrev If-some : Element → List ℕ → Type 0
@@ -156,9 +158,9 @@ module _ (f : Form) where
 
   given-word : (w : ℕ) → If-some (One w) (spellWord f w)
   given-word w =
-      pick-case (If-some (One w)) (ltb w 0x1000000) _ _ (λ t. given-graphic w)
-      (λ a. pick-case (If-some (One w)) (ltb w 0x2000000) _ _ (λ t. given-underlined w (ltb-false w 0x1000000 a))
-      (λ b. pick-case (If-some (One w)) (ltb w 0x4000000) _ _ (λ t. given-control w (ltb-false w 0x2000000 b))
+      pick-case (If-some (One w)) (ltb w underlinedFrom) _ _ (λ t. given-graphic w)
+      (λ a. pick-case (If-some (One w)) (ltb w controlsFrom) _ _ (λ t. given-underlined w (ltb-false w underlinedFrom a))
+      (λ b. pick-case (If-some (One w)) (ltb w sequencesFrom) _ _ (λ t. given-control w (ltb-false w controlsFrom b))
       (λ c n. absurd (n refl))))
 
   given-sequence : (q : Sequence) → Fine q → If-some (sequenceElement q) (spellElement f (sequenceElement q))
@@ -186,7 +188,7 @@ module _ (f : Form) where
   cons-some : {o : ℕ} {s : List ℕ} → Some (o ∷ s)
   cons-some e = let w : _≡_ {A = ℕ} 0 1 = cc in omega arith
 
-  pub canonical-some : {s : List ℕ} {e : Element} → CanonicalElement f s e → Some s
+  pub canonical-some : {s : List ℕ} {e : Element} → CanonicalElement f s e → s ≡ [] → ⊥
   canonical-some (CanonicalElement.graphic {c} {x} k) = octets-some x (exactly f c x .0 k .1)
   canonical-some (CanonicalElement.underlined s k) = cons-some
   canonical-some (CanonicalElement.control s) = cons-some
@@ -199,7 +201,7 @@ module _ (f : Form) where
   canonical-proper (CanonicalElement.sequence {s} {q} st k) = Proper.sequence (canonical-exactly s q .0 k .0)
 
   -- The definition gives exactly the canonical spelling.
-  pub spells-exactly : (s : List ℕ) (e : Element) → CanonicalElement f s e ↔ (Proper e × (spellElement f e ≡ s) × Some s)
+  pub spells-exactly : (s : List ℕ) (e : Element) → CanonicalElement f s e ↔ (Proper e × (spellElement f e ≡ s) × (s ≡ [] → ⊥))
   spells-exactly s e = (
     λ k. (canonical-proper k, canonical-given k, canonical-some k),
     λ h. subst (λ (x : List ℕ). CanonicalElement f x e) (h .1) (given-canonical (h .0) (λ z. h .2 (sym (h .1) ∙ z))),

@@ -1,5 +1,5 @@
--- The canonical spelling of an element, what a form holds and writes: to be believed, as relations; and proved equal to that, the
--- definitions that give it (Writer: spells-exactly, writer-reads).
+-- To be believed, as relations: the canonical spelling of an element, what a form holds and writes. Proved equal to that, the definitions
+-- that give it (Writer: spells-exactly, writer-reads). Last, parts of the code.
 -- Assumes nothing.
 use Prim.Native.Nat.{ℕ, _-_, _<_}
 use mathlib.Core.Path.{_≡_}
@@ -18,19 +18,16 @@ use Rattle.spelling.specs.declared.Spelling.the-variants.{One as Single, Unspel
 use Rattle.sorts.specs.Sorts.{sortIn}
 use Rattle.spelling.specs.CanonicalSpelling.{octetsOf, Canonical}
 use Rattle.spelling.specs.SpellingGiven.{spellIn}
-use Rattle.sequence_reading.specs.Kinds.{CSI}
+use Rattle.sorts.specs.Forms.{CC, CSI}
 use Rattle.sequence_reading.specs.Grammar.{Sequence}
-use Rattle.sequence_reading.specs.Reading.{listOf}
+use Rattle.sequence_reading.specs.EightValues.{listOf}
 use Rattle.sequence_spelling.specs.SequenceOctets.{CanonicalSequence, spellSequence}
 use Rattle.element_words.specs.declared.Element.{Element}
 use Rattle.element_words.specs.declared.Element.the-variants.{One, Sequence as SequenceOf}
+use Rattle.element_words.specs.Words.{underlinedFrom, controlsFrom, sequencesFrom}
 use Rattle.element_words.specs.Words.{graphicWord, controlWord, sequenceElement, wordsOf, sequenceOf, isSequence, wordHead}
 
 -- ---- the relation (document 01, "Canonical spelling")
-
--- the underline octet
-abbrev pub CC : ℕ
-CC = 0xCC
 
 pub data CanonicalElement (f : Form) : List ℕ → Element → Type 0 where
   -- "One octet where the form has one, else the pair"
@@ -57,7 +54,7 @@ pub record NoneHeld (f : Form) (words : List ℕ) : Type 0 where
   pub some : 0 < length words
   pub not-held : (e : Element) (t : List ℕ) → Held f e → words ≡ wordsOf e ++ t → ⊥
 
--- ---- the definition that gives it: no octets where the form does not hold the element
+-- ---- the definition that gives it: no octets where the words are no element that the form holds
 
 -- the sorts that carry nothing, each by its number; 0 for any other
 abbrev pub sortTag : Sort → ℕ
@@ -77,9 +74,12 @@ afterCC (o ∷ s) = CC ∷ o ∷ s
 -- a word that is one element's: a character, an underlined character, a control
 abbrev pub spellWord : Form → ℕ → List ℕ
 spellWord f w =
-    pick (ltb w 0x1000000) (octetsOf (spellIn f w))
-    (pick (ltb w 0x2000000) (pick (eqb (sortTag (sortIn f CC)) (sortTag Underline)) (afterCC (octetsOf (spellIn f (w - 0x1000000)))) [])
-    (pick (ltb w 0x4000000) (pick (eqb (sortTag (sortIn f (w - 0x2000000))) (sortTag Control)) ((w - 0x2000000) ∷ []) []) []))
+    pick (ltb w underlinedFrom) (octetsOf (spellIn f w))
+    (pick (ltb w controlsFrom)
+    (pick (eqb (sortTag (sortIn f CC)) (sortTag Underline)) (afterCC (octetsOf (spellIn f (w - underlinedFrom)))) [])
+    (pick (ltb w sequencesFrom)
+    (pick (eqb (sortTag (sortIn f (w - controlsFrom))) (sortTag Control)) ((w - controlsFrom) ∷ []) [])
+    []))
 
 -- a head word and its values
 abbrev pub spellSequenceWords : Form → ℕ → List ℕ → List ℕ
@@ -98,9 +98,12 @@ spellHead f = speltBy (spellElement f) wordHead
 
 abbrev pub wordSpelling : Form → ℕ → Spelling
 wordSpelling f w =
-    pick (ltb w 0x1000000) (spellIn f w)
-    (pick (ltb w 0x2000000) (pick (eqb (sortTag (sortIn f CC)) (sortTag Underline)) (spellIn f (w - 0x1000000)) Unspelt)
-    (pick (ltb w 0x4000000) (pick (eqb (sortTag (sortIn f (w - 0x2000000))) (sortTag Control)) (Single (w - 0x2000000)) Unspelt) Unspelt))
+    pick (ltb w underlinedFrom) (spellIn f w)
+    (pick (ltb w controlsFrom)
+    (pick (eqb (sortTag (sortIn f CC)) (sortTag Underline)) (spellIn f (w - underlinedFrom)) Unspelt)
+    (pick (ltb w sequencesFrom)
+    (pick (eqb (sortTag (sortIn f (w - controlsFrom))) (sortTag Control)) (Single (w - controlsFrom)) Unspelt)
+    Unspelt))
 
 abbrev pub isUnderlined : ℕ → Bool
-isUnderlined w = pick (ltb w 0x1000000) false (ltb w 0x2000000)
+isUnderlined w = pick (ltb w underlinedFrom) false (ltb w controlsFrom)

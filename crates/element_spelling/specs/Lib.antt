@@ -1,1 +1,2 @@
 pub mod ElementOctets
+pub mod Promises

@@ -9,9 +9,10 @@ ghost use Prim.Native.Nat.{_+_, _≤_};
 ghost use lib.ListN.{length};
 ghost use Rattle.run.specs.Put.{Put, whatFits};
 ghost use Rattle.spelling.specs.CanonicalSpelling.{octetsOf};
-ghost use Rattle.sequence_reading.specs.Reading.{listOf};
-ghost use Rattle.element_spelling.specs.ElementOctets.{sortTag, spellWord, spellSequenceWords, spellElement};
+ghost use Rattle.sequence_reading.specs.EightValues.{listOf};
+ghost use Rattle.element_spelling.specs.ElementOctets.{sortTag, spellWord, spellSequenceWords};
 ghost use Rattle.element_spelling.specs.ElementOctets.{wordSpelling, isUnderlined};
+ghost use Rattle.element_spelling.specs.Promises.{SpeltSizePromise, PutSpellingPromise};
 
 // The sorts that a spelling asks for, as `sort_tag` tells them.
 const UNDERLINE: u8 = 1;
@@ -19,6 +20,9 @@ const UNDERLINE: u8 = 1;
 const CONTROL: u8 = 3;
 
 const SEQUENCE_START: u8 = 4;
+
+// A control's word is below this one, as a control is one octet.
+const PAST_CONTROLS: u32 = element_words::CONTROLS_FROM + 0x100;
 
 // The sorts that carry nothing, each by its tag; 0 for any other.
 fn sort_tag(sort: Sort) -> u8
@@ -39,17 +43,17 @@ fn sort_tag(sort: Sort) -> u8
 fn word_spelling(form: Form, w: u32) -> Spelling
     ensures { λ r. ⌜ r ≡ wordSpelling form w ⌝ }
 {
-    if w < 0x1000000 {
+    if w < element_words::UNDERLINED_FROM {
         return spelling::spell_in(form, w);
     }
-    if w < 0x2000000 {
-        if sort_tag(sorts::sort_in(form, 0xCC)) == UNDERLINE {
-            return spelling::spell_in(form, w - 0x1000000);
+    if w < element_words::CONTROLS_FROM {
+        if sort_tag(sorts::sort_in(form, sorts::CC)) == UNDERLINE {
+            return spelling::spell_in(form, w - element_words::UNDERLINED_FROM);
         }
         return Spelling::Unspelt;
     }
-    if w < 0x2000100 {
-        let o = (w - 0x2000000) as u8;
+    if w < PAST_CONTROLS {
+        let o = (w - element_words::CONTROLS_FROM) as u8;
         if sort_tag(sorts::sort_in(form, o)) == CONTROL {
             return Spelling::One(o);
         }
@@ -62,10 +66,10 @@ fn word_spelling(form: Form, w: u32) -> Spelling
 fn is_underlined(w: u32) -> bool
     ensures { λ r. ⌜ r ≡ isUnderlined w ⌝ }
 {
-    if w < 0x1000000 {
+    if w < element_words::UNDERLINED_FROM {
         return false;
     }
-    w < 0x2000000
+    w < element_words::CONTROLS_FROM
 }
 
 fn octets_in(x: Spelling) -> usize
@@ -101,7 +105,7 @@ fn put_octets(x: Spelling, out: &mut [u8], at: usize) -> usize
     match x {
         Spelling::One(o) => run::put(out, at, o),
         Spelling::Shifted(o) => {
-            let i = run::put(out, at, 0x19);
+            let i = run::put(out, at, sorts::SS2);
             run::put(out, i, o)
         }
         Spelling::Pair(m, l) => {
@@ -109,7 +113,7 @@ fn put_octets(x: Spelling, out: &mut [u8], at: usize) -> usize
             run::put(out, i, l)
         }
         Spelling::ShiftedPair(m, l) => {
-            let i = run::put(out, at, 0x19);
+            let i = run::put(out, at, sorts::SS2);
             let j = run::put(out, i, m);
             run::put(out, j, l)
         }
@@ -134,7 +138,7 @@ fn put_word(form: Form, w: u32, out: &mut [u8], at: usize) -> usize
         if room < n + 1 {
             return at;
         }
-        let i = run::put(out, at, 0xCC);
+        let i = run::put(out, at, sorts::CC);
         return put_octets(x, out, i);
     }
     if room < n {
@@ -147,13 +151,13 @@ fn put_word(form: Form, w: u32, out: &mut [u8], at: usize) -> usize
 fn sequence_words_size(form: Form, head: u32, values: &[u32]) -> usize
     ensures { λ r. ⌜ r ≡ length (spellSequenceWords form head (now (values .entry))) ⌝ }
 {
-    if sort_tag(sorts::sort_in(form, 0x9B)) != SEQUENCE_START {
+    if sort_tag(sorts::sort_in(form, sorts::CSI)) != SEQUENCE_START {
         return 0;
     }
     if !element_words::is_sequence(head, values) {
         return 0;
     }
-    let middle = (head - 0x4000000) / 0x10000;
+    let middle = (head - element_words::SEQUENCES_FROM) / 0x10000;
     let last = head / 0x100 % 0x100;
     sequence_spelling::sequence_size(middle as u8, last as u8, values)
 }
@@ -162,13 +166,13 @@ fn put_sequence_words(form: Form, head: u32, values: &[u32], out: &mut [u8], at:
     ensures { λ r. ⌜ Put (now (out .entry)) at
         (whatFits (now (out .entry)) at (spellSequenceWords form head (now (values .entry)))) (now (out .exit)) r ⌝ }
 {
-    if sort_tag(sorts::sort_in(form, 0x9B)) != SEQUENCE_START {
+    if sort_tag(sorts::sort_in(form, sorts::CSI)) != SEQUENCE_START {
         return at;
     }
     if !element_words::is_sequence(head, values) {
         return at;
     }
-    let middle = (head - 0x4000000) / 0x10000;
+    let middle = (head - element_words::SEQUENCES_FROM) / 0x10000;
     let last = head / 0x100 % 0x100;
     sequence_spelling::put_sequence(middle as u8, last as u8, values, out, at)
 }
@@ -180,9 +184,9 @@ fn eight(v: Values) -> [u32; 8]
     [v.v0, v.v1, v.v2, v.v3, v.v4, v.v5, v.v6, v.v7]
 }
 
-// How many octets an element's canonical spelling in a form has; 0 where the form does not hold it.
+// How many octets an element's words are spelt with in a form; 0 where they are no element that it holds.
 pub fn spelt_size(form: Form, e: Element) -> usize
-    ensures { λ r. ⌜ r ≡ length (spellElement form e) ⌝ }
+    ensures { λ r. ⌜ SpeltSizePromise form e r ⌝ }
 {
     match e {
         Element::One(w) => word_size(form, w),
@@ -198,10 +202,10 @@ pub fn spelt_size(form: Form, e: Element) -> usize
     }
 }
 
-// Writes an element's canonical spelling at `at` and answers the place after it; where the form does not hold it or the room is short,
-// it does nothing and answers `at`.
+// Writes the spelling of an element's words at `at` and answers the place after it; where they are no element that the form holds or the
+// room is short, it does nothing and answers `at`.
 pub fn put_spelling(form: Form, e: Element, out: &mut [u8], at: usize) -> usize
-    ensures { λ r. ⌜ Put (now (out .entry)) at (whatFits (now (out .entry)) at (spellElement form e)) (now (out .exit)) r ⌝ }
+    ensures { λ r. ⌜ PutSpellingPromise form e (now (out .entry)) at r (now (out .exit)) ⌝ }
 {
     match e {
         Element::One(w) => put_word(form, w, out, at),

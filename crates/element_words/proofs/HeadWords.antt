@@ -13,6 +13,7 @@ use Rattle.run.specs.Choice.{pick}
 use Rattle.run.proofs.Choices.{both-true}
 use Rattle.sequence_spelling.specs.SequenceOctets.{Fine, isFine, spellSequence, sizeOf}
 use Rattle.sequence_spelling.proofs.Exactly.{fine-test, size-some}
+use Rattle.element_words.specs.Words.{sequencesFrom}
 use Rattle.element_words.specs.Words.{headWord, sequenceOf, isSequence}
 use Rattle.element_words.proofs.Words.{count-back}
 
@@ -37,10 +38,10 @@ module _ (h : ℕ) (vs : List ℕ) where
       go true e = absurd (n e)
       go false e = refl
 
-  pub low-head : h < 0x4000000 → false ≡ isSequence h vs
+  pub low-head : h < sequencesFrom → false ≡ isSequence h vs
   low-head l = never (λ e. let z = is-true e .1 in omega arith)
 
-  pub high-middle : 0x2F < (h - 0x4000000) / 0x10000 → false ≡ isSequence h vs
+  pub high-middle : 0x2F < (h - sequencesFrom) / 0x10000 → false ≡ isSequence h vs
   high-middle l = never (λ e. ⊎-elim (λ z. omega arith) (λ z. omega arith) (is-true e .0 .middle))
 
   fine-or : (b : Bool) → isFine (sequenceOf h vs) ≡ b
@@ -62,15 +63,15 @@ module _ (h : ℕ) (vs : List ℕ) where
       go true e = sym (eq-eqb c d (f (eqb-true a b e)))
       go false e = sym (ne-eqb c d (λ q. eqb-false a b e (g q)))
 
-  pub by-count : 0x4000000 ≤ h → (h - 0x4000000) / 0x10000 ≤ 0x2F → (sizeOf (sequenceOf h vs) ≡ 0 → ⊥)
+  pub by-count : sequencesFrom ≤ h → (h - sequencesFrom) / 0x10000 ≤ 0x2F → (sizeOf (sequenceOf h vs) ≡ 0 → ⊥)
       → eqb (h % 0x100) (length vs) ≡ isSequence h vs
   by-count l m n =
       same-test (h % 0x100) (length vs) (headWord (sequenceOf h vs)) h (λ e. omega arith) (λ e. omega arith)
       ∙ ap (λ (b : Bool). pick b (eqb (headWord (sequenceOf h vs)) h) false) (sym (fine-or (isFine (sequenceOf h vs)) refl .1 n))
 
 module _ (h : ℕ) (vs : List ℕ) (e : isSequence h vs ≡ true) where
-  pub head-enough : 0x4000000 ≤ h
+  pub head-enough : sequencesFrom ≤ h
   head-enough = omega (arith, is-true h vs e .1)
 
-  pub middle-small : (h - 0x4000000) / 0x10000 < 0x100
+  pub middle-small : (h - sequencesFrom) / 0x10000 < 0x100
   middle-small = ⊎-elim (λ z. omega arith) (λ z. omega arith) (is-true h vs e .0 .middle)

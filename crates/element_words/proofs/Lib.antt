@@ -1,4 +1,5 @@
 pub mod Words
 pub mod HeadWords
 mod Meanings
+pub mod NumbersExactly
 pub mod OneAnswer

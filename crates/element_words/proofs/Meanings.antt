@@ -13,10 +13,11 @@ use Rattle.run.specs.Put.{Put}
 use Rattle.run.proofs.FromPlace.{at-place}
 use Rattle.run.proofs.Puts.{put-as, put-both}
 use Rattle.sequence_reading.specs.declared.Values.{Values}
-use Rattle.sequence_reading.specs.Reading.{valuesOf, listOf}
+use Rattle.sequence_reading.specs.EightValues.{valuesOf, listOf}
 use Rattle.element_words.specs.declared.Element.{Element}
 use Rattle.element_words.specs.declared.Element.the-variants.{One, Sequence as SequenceOf}
 use Rattle.element_words.specs.declared.Meant.the-variants.{Element as Word, NoElement, End}
+use Rattle.element_words.specs.Words.{sequencesFrom}
 use Rattle.element_words.specs.Words.{sequenceElement, wordsOf, sequenceOf, isSequence, wordHead, meantOf, meantAt}
 use Rattle.element_words.proofs.HeadWords.{is-true, count-is, never}
 use Rattle.element_words.proofs.Words.{sequence-head, kept-values}
@@ -33,15 +34,15 @@ module _ (words : List ℕ) (at : ℕ) where
     unfolding meantAt
     here = ap (λ (l : List ℕ). meantOf at (wordHead l)) (at-place words at h)
 
-    pub one-word : getD words at 0 < 0x4000000 → Word (One (getD words at 0)) (at + 1) ≡ meantAt words at
+    pub one-word : getD words at 0 < sequencesFrom → Word (One (getD words at 0)) (at + 1) ≡ meantAt words at
     unfolding wordHead
-    one-word l = sym (here ∙ rw (lt-ltb (getD words at 0) 0x4000000 l))
+    one-word l = sym (here ∙ rw (lt-ltb (getD words at 0) sequencesFrom l))
 
-    module _ (l : 0x4000000 ≤ getD words at 0) where
+    module _ (l : sequencesFrom ≤ getD words at 0) where
       no-sequence : isSequence (getD words at 0) (take (getD words at 0 % 0x100) (drop (at + 1) words)) ≡ false
           → NoElement ≡ meantAt words at
       unfolding wordHead
-      no-sequence e = sym (here ∙ rw (le-ltb (getD words at 0) 0x4000000 l, e))
+      no-sequence e = sym (here ∙ rw (le-ltb (getD words at 0) sequencesFrom l, e))
 
       pub cut-words : length words - (at + 1) < getD words at 0 % 0x100 → NoElement ≡ meantAt words at
       cut-words s =

@@ -3,21 +3,22 @@
 use Prim.Native.Nat.{ℕ, min}
 use mathlib.Core.List.{List}
 use lib.ListN.{length}
-use Rattle.run.specs.Put.{whatFits}
-use Rattle.run.proofs.OneAnswer.{Once, once, Once-put, once-put}
+use Rattle.run.specs.OneAnswer.{Once, OnceBoth}
+use Rattle.run.proofs.OneAnswer.{once, once-put}
 use Rattle.element_words.specs.declared.Element.{Element}
 use Rattle.element_words.specs.Words.{wordsOf, isSequence, meantAt}
+use Rattle.element_words.specs.Promises.{IsSequencePromise, ElementOfPromise, KeptPromise, WordsInPromise, PutWordsPromise}
 
-pub table : (words : List ℕ) (at head count : ℕ) (e : Element) (out : List ℕ)
-    → Once (isSequence head words)  -- is_sequence
-    × Once (meantAt words at)  -- element_of
-    × Once (min count 8)  -- kept
-    × Once (length (wordsOf e))  -- words_in
-    × Once-put out at (whatFits out at (wordsOf e))  -- put_words
-table words at head count e out = (
-  once (isSequence head words),
-  once (meantAt words at),
-  once (min count 8),
-  once (length (wordsOf e)),
-  once-put out at (whatFits out at (wordsOf e)),
+pub one-answer : (words : List ℕ) (at head count : ℕ) (e : Element)
+    → Once (IsSequencePromise head words)
+    × Once (ElementOfPromise words at)
+    × Once (KeptPromise count)
+    × Once (WordsInPromise e)
+    × OnceBoth (PutWordsPromise e words at)
+one-answer words at head count e = (
+  once (IsSequencePromise head words) (isSequence head words) (λ r p. p),
+  once (ElementOfPromise words at) (meantAt words at) (λ r p. p .0),
+  once (KeptPromise count) (min count 8) (λ r p. p),
+  once (WordsInPromise e) (length (wordsOf e)) (λ r p. p),
+  once-put words at _,
 )

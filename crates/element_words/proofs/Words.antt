@@ -2,7 +2,6 @@
 -- Assumes nothing.
 use Prim.Native.Nat.{ℕ, _+_, _-_, _/_, _%_, _≤_, _<_, min}
 use mathlib.Core.Path.{_≡_, refl, sym, ap, ap₂, _∙_, subst, subst₂}
-use mathlib.Core.Logic.{_↔_}
 use mathlib.Core.Bool.{Bool, true, false}
 use mathlib.Core.List.{List, [], _∷_, _++_}
 use native.Mathlib.Omega.{arith}
@@ -16,28 +15,14 @@ use Rattle.run.specs.Grammar.{Begins, Reads}
 use Rattle.run.specs.Head.{Head, element, refused, none}
 use Rattle.sequence_reading.specs.declared.Values.{Values}
 use Rattle.sequence_reading.specs.Grammar.{Sequence}
-use Rattle.sequence_reading.specs.Reading.{valuesOf, listOf}
+use Rattle.sequence_reading.specs.EightValues.{listOf}
+use Rattle.sequence_reading.proofs.EightValues.{values-back}
 use Rattle.sequence_spelling.specs.SequenceOctets.{Fine, isFine}
 use Rattle.sequence_spelling.proofs.Exactly.{fine-test}
 use Rattle.element_words.specs.declared.Element.{Element}
 use Rattle.element_words.specs.declared.Element.the-variants.{One, Sequence as SequenceOf}
-use Rattle.element_words.specs.declared.Meant.{Meant}
-use Rattle.element_words.specs.declared.Meant.the-variants.{Element as Word, NoElement, End}
-use Rattle.element_words.specs.Words.{meantAt, meantAnswer}
+use Rattle.element_words.specs.Words.{sequencesFrom}
 use Rattle.element_words.specs.Words.{headWord, sequenceElement, wordsOf, Proper, Means, means, sequenceOf, isSequence, wordHead}
-
--- eight values at most are kept by the struct of eight
-pub values-back : (vs : List ℕ) → length vs ≤ 8 → take (length vs) (listOf (valuesOf vs)) ≡ vs
-values-back [] h = refl
-values-back (a ∷ []) h = refl
-values-back (a ∷ (b ∷ [])) h = refl
-values-back (a ∷ (b ∷ (c ∷ []))) h = refl
-values-back (a ∷ (b ∷ (c ∷ (d ∷ [])))) h = refl
-values-back (a ∷ (b ∷ (c ∷ (d ∷ (e ∷ []))))) h = refl
-values-back (a ∷ (b ∷ (c ∷ (d ∷ (e ∷ (g ∷ [])))))) h = refl
-values-back (a ∷ (b ∷ (c ∷ (d ∷ (e ∷ (g ∷ (i ∷ []))))))) h = refl
-values-back (a ∷ (b ∷ (c ∷ (d ∷ (e ∷ (g ∷ (i ∷ (j ∷ [])))))))) h = refl
-values-back (a ∷ (b ∷ (c ∷ (d ∷ (e ∷ (g ∷ (i ∷ (j ∷ (k ∷ vs))))))))) h = absurd (omega arith)
 
 -- ---- the values that a struct of eight keeps
 
@@ -56,14 +41,14 @@ part-count n k l v e q = omega (arith, length-take n l, ap length q)
 true-both : (a b : Bool) → a ≡ true → b ≡ true → pick a b false ≡ true
 true-both a b p q = rw (p, q)
 
-pub sequence-head : (w : ℕ) (ws vs : List ℕ) → 0x4000000 ≤ w → take (w % 0x100) ws ≡ vs → isSequence w vs ≡ true
+pub sequence-head : (w : ℕ) (ws vs : List ℕ) → sequencesFrom ≤ w → take (w % 0x100) ws ≡ vs → isSequence w vs ≡ true
     → wordHead (w ∷ ws) ≡ element (sequenceElement (sequenceOf w vs)) (w % 0x100 + 1)
 unfolding wordHead
-sequence-head w ws vs h e s = rw (le-ltb w 0x4000000 h, e, s)
+sequence-head w ws vs h e s = rw (le-ltb w sequencesFrom h, e, s)
 
 module _ (q : Sequence) (fine : Fine q) where
   -- a head word gives its parts back
-  middle-back : (headWord q - 0x4000000) / 0x10000 ≡ q .middle
+  middle-back : (headWord q - sequencesFrom) / 0x10000 ≡ q .middle
   middle-back = omega (arith, fine .high, fine .eight)
 
   last-back : headWord q / 0x100 % 0x100 ≡ q .last
@@ -80,7 +65,7 @@ module _ (q : Sequence) (fine : Fine q) where
       subst (λ (r : Sequence). pick (isFine r) (eqb (headWord r) (headWord q)) false ≡ true) (sym sequence-back)
       (true-both (isFine q) (eqb (headWord q) (headWord q)) (fine-test q .1 fine) (eq-eqb (headWord q) (headWord q) refl))
 
-  pub head-high : 0x4000000 ≤ headWord q
+  pub head-high : sequencesFrom ≤ headWord q
   head-high = omega arith
 
   pub words-of : wordsOf (sequenceElement q) ≡ headWord q ∷ q .values
@@ -95,14 +80,14 @@ module _ (q : Sequence) (fine : Fine q) where
       ∙ sequence-head (headWord q) (q .values ++ t) (q .values) head-high n is-sequence
       ∙ ap₂ element (ap sequenceElement sequence-back) k
 
-pub one-head : (w : ℕ) (t : List ℕ) → w < 0x4000000 → wordHead (w ∷ t) ≡ element (One w) 1
+pub one-head : (w : ℕ) (t : List ℕ) → w < sequencesFrom → wordHead (w ∷ t) ≡ element (One w) 1
 unfolding wordHead
-one-head w t h = rw (lt-ltb w 0x4000000 h)
+one-head w t h = rw (lt-ltb w sequencesFrom h)
 
 -- ---- what stands at the head of a list of words
 
-pub data Word-view : List ℕ → Head Element → Type 0 where
-  a-word : {w : ℕ} (t : List ℕ) → w < 0x4000000 → Word-view (w ∷ t) (element (One w) 1)
+data Word-view : List ℕ → Head Element → Type 0 where
+  a-word : {w : ℕ} (t : List ℕ) → w < sequencesFrom → Word-view (w ∷ t) (element (One w) 1)
   a-sequence : {q : Sequence} (t : List ℕ) → Fine q
       → Word-view (headWord q ∷ (q .values ++ t)) (element (sequenceElement q) (length (q .values) + 1))
   no-element : {w : ℕ} (t : List ℕ) → Word-view (w ∷ t) (refused 10 0)
@@ -121,11 +106,11 @@ word-sequence w ws e =
     subst₂ (λ (l : List ℕ) (k : ℕ). Word-view l (element (sequenceElement q) k))
     (ap₂ _∷_ hw (take-append-drop (w % 0x100) ws)) (ap (λ (k : ℕ). k + 1) (sym n)) v
 
-pub word-view : (ws : List ℕ) → Word-view ws (wordHead ws)
+word-view : (ws : List ℕ) → Word-view ws (wordHead ws)
 unfolding wordHead
 word-view [] = no-word
 word-view (w ∷ ws) =
-    pick-case (Word-view (w ∷ ws)) (ltb w 0x4000000) _ _ (λ t. a-word ws (ltb-true w 0x4000000 t))
+    pick-case (Word-view (w ∷ ws)) (ltb w sequencesFrom) _ _ (λ t. a-word ws (ltb-true w sequencesFrom t))
     (λ n. pick-case (Word-view (w ∷ ws)) (isSequence w (take (w % 0x100) ws)) _ _ (word-sequence w ws) (λ n. no-element ws))
 
 -- ---- words keep the record of promises of `run`
@@ -196,12 +181,3 @@ words-read =
       numbered = λ ws r d q. omega (arith, words-refused ws r d q);
       inside = λ ws r d q. omega (arith, words-refused ws r d q);
     }
-
--- Number 10 exactly where the words are no element.
-pub meant-number : (words : List ℕ) (at : ℕ) → (meantAnswer at (meantAt words at) .number ≡ 10) ↔ (meantAt words at ≡ NoElement)
-meant-number words at = (forth (meantAt words at) refl, λ e. ap (λ (m : Meant). meantAnswer at m .number) e)
-  where
-    forth : (m : Meant) → meantAt words at ≡ m → meantAnswer at m .number ≡ 10 → meantAt words at ≡ NoElement
-    forth (Word e next) q h = absurd (omega arith)
-    forth NoElement q h = q
-    forth End q h = absurd (omega arith)

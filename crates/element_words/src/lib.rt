@@ -2,11 +2,20 @@
 use sequence_reading::Values;
 ghost use mathlib.Core.Path.{_≡_};
 ghost use mathlib.Core.List.{_∷_, []};
-ghost use Prim.Native.Nat.{_+_, _≤_, _<_, min};
+ghost use Prim.Native.Nat.{_+_, _≤_, _<_};
 ghost use lib.ListN.{length, getD, take};
-ghost use Rattle.run.specs.Put.{Put, whatFits};
-ghost use Rattle.sequence_reading.specs.Reading.{valuesOf, listOf};
-ghost use Rattle.element_words.specs.Words.{wordsOf, isSequence, meantAt};
+ghost use Rattle.run.specs.Put.{Put};
+ghost use Rattle.sequence_reading.specs.EightValues.{valuesOf, listOf};
+ghost use Rattle.element_words.specs.Words.{wordsOf};
+ghost use Rattle.element_words.specs.Promises.{IsSequencePromise, ElementOfPromise, KeptPromise, WordsInPromise, PutWordsPromise};
+
+// From where on the words of each kind stand. 01: "Graphic: its code point, plus 2^24 if underlined. Control: 2^25 + octet. Sequence:
+// 2^26 + ..".
+pub const UNDERLINED_FROM: u32 = 0x1000000;
+
+pub const CONTROLS_FROM: u32 = 0x2000000;
+
+pub const SEQUENCES_FROM: u32 = 0x4000000;
 
 // An element, known by its words.
 pub enum Element {
@@ -32,12 +41,12 @@ pub enum Meant {
 
 // Whether a head word and values are a sequence: one that can be, and its own head word.
 pub fn is_sequence(head: u32, values: &[u32]) -> bool
-    ensures { λ r. ⌜ r ≡ isSequence head (now (values .entry)) ⌝ }
+    ensures { λ r. ⌜ IsSequencePromise head (now (values .entry)) r ⌝ }
 {
-    if head < 0x4000000 {
+    if head < SEQUENCES_FROM {
         return false;
     }
-    let middle = (head - 0x4000000) / 0x10000;
+    let middle = (head - SEQUENCES_FROM) / 0x10000;
     if 0x2F < middle {
         return false;
     }
@@ -76,13 +85,13 @@ fn values_of(values: &[u32]) -> Values
 
 // The element that the words at a place are. 01: number 10 for "words that are no element or are cut off".
 pub fn element_of(words: &[u32], at: usize) -> Meant
-    ensures { λ r. ⌜ r ≡ meantAt (now (words .entry)) at ⌝ }
+    ensures { λ r. ⌜ ElementOfPromise (now (words .entry)) at r ⌝ }
 {
     if words.len() <= at {
         return Meant::End;
     }
     let w = words[at];
-    if w < 0x4000000 {
+    if w < SEQUENCES_FROM {
         return Meant::Element(Element::One(w), at + 1);
     }
     let first = at + 1;
@@ -107,7 +116,7 @@ pub fn element_of(words: &[u32], at: usize) -> Meant
 
 // How many of its eight a sequence's values are.
 pub fn kept(count: usize) -> usize
-    ensures { λ r. ⌜ r ≡ min count 8 ⌝ }
+    ensures { λ r. ⌜ KeptPromise count r ⌝ }
 {
     if count < 8 {
         return count;
@@ -117,7 +126,7 @@ pub fn kept(count: usize) -> usize
 
 // How many words an element has.
 pub fn words_in(e: Element) -> usize
-    ensures { λ r. ⌜ r ≡ length (wordsOf e) ⌝ }
+    ensures { λ r. ⌜ WordsInPromise e r ⌝ }
 {
     match e {
         Element::One(_) => 1,
@@ -170,7 +179,7 @@ fn put_all(e: Element, words: &mut [u32], at: usize) -> usize
 
 // Writes an element's words at `at` and answers the place after them; where the room is short, it does nothing and answers `at`.
 pub fn put_words(e: Element, words: &mut [u32], at: usize) -> usize
-    ensures { λ r. ⌜ Put (now (words .entry)) at (whatFits (now (words .entry)) at (wordsOf e)) (now (words .exit)) r ⌝ }
+    ensures { λ r. ⌜ PutWordsPromise e (now (words .entry)) at r (now (words .exit)) ⌝ }
 {
     let size = words_in(e);
     if words.len() < at {

@@ -13,11 +13,10 @@ use Rattle.run.specs.Choice.{pick}
 use Rattle.sorts.specs.declared.Form.{Form}
 use Rattle.sorts.specs.declared.Sort.{Sort}
 use Rattle.sorts.specs.declared.Sort.the-variants.{Graphic, Mark, Underline, Shift, Control, SequenceStart, Refused}
-use Rattle.sorts.specs.declared.Found.the-variants.{Char}
 use Rattle.sorts.specs.Tables.{consecutive}
-use Rattle.squares.specs.Squares.{squareOf, rowOf, columnOf, squareTable, squareIn}
+use Rattle.squares.specs.Squares.{rowOf, columnOf, squareTable, squareIn}
 use Rattle.sorts.specs.Sorts.{sortIn}
-use Rattle.lent_tables.specs.CodeTables.{noCharacter, neither, codeOf, codeTable, codeIn, pairedIn}
+use Rattle.lent_tables.specs.CodeTables.{noCharacter, neither, codeOf, codeTable, codeIn, pairedIn, ListedPair}
 use Rattle.sorts.proofs.SortFacts.{graphic-small, mark-small}
 use Rattle.squares.proofs.Pairs.{filled}
 
@@ -80,14 +79,8 @@ column-inside table r k some =
     ∙ pick-0 (leb 13 r)) in
     omega (arith, past)
 
--- the mark and its follower, of an entry that is not 0
-pub record Listed (f : Form) (o l c : ℕ) : Type 0 where
-  pub mark : ℕ
-  pub sorts : sortIn f o ≡ Mark mark
-  pub square : squareOf mark l ≡ Char c
-
 module _ (f : Form) (o l c : ℕ) (some : c ≡ 0 → ⊥) where
-  in-row : (m : ℕ) → sortIn f o ≡ Mark m → c ≡ squareIn squareTable (rowOf m) (columnOf l) → Listed f o l c
+  in-row : (m : ℕ) → sortIn f o ≡ Mark m → c ≡ squareIn squareTable (rowOf m) (columnOf l) → ListedPair f o l c
   in-row m q e =
       record {
         mark = m;
@@ -97,7 +90,7 @@ module _ (f : Form) (o l c : ℕ) (some : c ≡ 0 → ⊥) where
             (column-small l (column-inside squareTable (rowOf m) (columnOf l) (λ z. some (e ∙ z)))) some);
       }
 
-  listed-by : (s : Sort) → sortIn f o ≡ s → c ≡ pairedIn squareTable (codeOf s) l → Listed f o l c
+  listed-by : (s : Sort) → sortIn f o ≡ s → c ≡ pairedIn squareTable (codeOf s) l → ListedPair f o l c
   listed-by (Mark m) q e =
       let r : noCharacter + rowOf m - noCharacter ≡ rowOf m = omega arith in
       in-row m q (e ∙ simp (le-ltb (noCharacter + rowOf m) noCharacter (omega arith), r))
@@ -109,7 +102,7 @@ module _ (f : Form) (o l c : ℕ) (some : c ≡ 0 → ⊥) where
   listed-by (Refused n) q e = absurd (some e)
 
   -- a pair's character that is not 0: the octet is a mark, and the follower is listed
-  pub pair-code : c ≡ pairedIn squareTable (codeIn (codeTable f) o) l → Listed f o l c
+  pub pair-code : c ≡ pairedIn squareTable (codeIn (codeTable f) o) l → ListedPair f o l c
   pair-code e =
       let past : 256 ≤ o → ⊥ = λ k. some (e ∙ ap (λ (x : ℕ). pairedIn squareTable x l) (no-octet f o k)) in
       listed-by (sortIn f o) refl (e ∙ ap (λ (x : ℕ). pairedIn squareTable x l) (at-octet f o (omega (arith, past))))

@@ -2,13 +2,18 @@
 -- Assumes nothing.
 use Prim.Native.Nat.{ℕ}
 use mathlib.Core.List.{List}
-use Rattle.run.proofs.OneAnswer.{Once, once}
+use Rattle.run.specs.OneAnswer.{Once}
+use Rattle.run.proofs.OneAnswer.{once}
 use Rattle.sorts.specs.declared.Form.{Form}
 use Rattle.lent_tables.specs.CodeTables.{codeTable, codeIn, pairedIn}
+use Rattle.lent_tables.specs.Promises.{CodeTablePromise, CodeInPromise, PairedInPromise}
 
-pub table : (form : Form) (octet code follower : ℕ) (squares : List (List ℕ)) (codes : List ℕ)
-    → Once (codeTable form)  -- code_table
-    × Once (codeIn codes octet)  -- code_in
-    × Once (pairedIn squares code follower)  -- paired_in
-table form octet code follower squares codes =
-    (once (codeTable form), once (codeIn codes octet), once (pairedIn squares code follower))
+pub one-answer : (form : Form) (octet code follower : ℕ) (squares : List (List ℕ)) (codes : List ℕ)
+    → Once (CodeTablePromise form)
+    × Once (CodeInPromise codes octet)
+    × Once (PairedInPromise squares code follower)
+one-answer form octet code follower squares codes = (
+  once (CodeTablePromise form) (codeTable form) (λ r p. p),
+  once (CodeInPromise codes octet) (codeIn codes octet) (λ r p. p),
+  once (PairedInPromise squares code follower) (pairedIn squares code follower) (λ r p. p),
+)

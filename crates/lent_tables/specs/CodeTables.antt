@@ -2,15 +2,17 @@
 -- alone.
 -- Assumes nothing.
 use Prim.Native.Nat.{ℕ, _+_, _-_}
+use mathlib.Core.Path.{_≡_}
 use mathlib.Core.List.{List, map}
 use lib.Dec.{ltb}
 use lib.ListN.{getD}
+use Rattle.sorts.specs.declared.Found.the-variants.{Char}
 use Rattle.run.specs.Choice.{pick}
 use Rattle.sorts.specs.declared.Form.{Form}
 use Rattle.sorts.specs.declared.Sort.{Sort}
 use Rattle.sorts.specs.declared.Sort.the-variants.{Graphic, Mark, Underline, Shift, Control, SequenceStart, Refused}
 use Rattle.sorts.specs.Tables.{consecutive}
-use Rattle.squares.specs.Squares.{rowOf, columnOf, squareIn}
+use Rattle.squares.specs.Squares.{rowOf, columnOf, squareIn, squareOf}
 use Rattle.sorts.specs.Sorts.{sortIn}
 
 -- What each octet is by itself, as one number: a spacing character is its code point; from here on there is none (01's highest is 266A)
@@ -42,3 +44,9 @@ codeIn table octet = pick (ltb octet 256) (getD table octet 0) neither
 -- the character of a mark's code and a follower: 0 where there is none
 abbrev pub pairedIn : List (List ℕ) → ℕ → ℕ → ℕ
 pairedIn table code follower = pick (ltb code noCharacter) 0 (squareIn table (code - noCharacter) (columnOf follower))
+
+-- the mark and its follower, of an entry that is not 0
+pub record ListedPair (f : Form) (o l c : ℕ) : Type 0 where
+  pub mark : ℕ
+  pub sorts : sortIn f o ≡ Mark mark
+  pub square : squareOf mark l ≡ Char c

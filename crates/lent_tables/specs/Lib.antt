@@ -1,1 +1,2 @@
 pub mod CodeTables
+pub mod Promises

@@ -2,15 +2,14 @@
 mod codes;
 
 use sorts::Form;
-ghost use mathlib.Core.Path.{_≡_};
-ghost use Rattle.lent_tables.specs.CodeTables.{codeTable, codeIn, pairedIn};
+ghost use Rattle.lent_tables.specs.Promises.{CodeTablePromise, CodeInPromise, PairedInPromise};
 
 // What an octet is by itself, as one number: a spacing character's code point; from here on a mark's row, and 13 where it is neither.
 pub const NO_CHARACTER: u32 = 0x8000;
 
 // The table of what each octet of a form is by itself, to be lent: made once for a whole text.
 pub fn code_table(form: Form) -> [u16; 256]
-    ensures { λ r. ⌜ r ≡ codeTable form ⌝ }
+    ensures { λ r. ⌜ CodeTablePromise form r ⌝ }
 {
     match form {
         Form::Eight => codes::EIGHT,
@@ -21,14 +20,14 @@ pub fn code_table(form: Form) -> [u16; 256]
 
 // What an octet is by itself, by a lent table.
 pub fn code_in(table: &[u16; 256], octet: u8) -> u32
-    ensures { λ r. ⌜ r ≡ codeIn (now (table .entry)) octet ⌝ }
+    ensures { λ r. ⌜ CodeInPromise (now (table .entry)) octet r ⌝ }
 {
     sorts::wide(table[octet as usize])
 }
 
 // The character of a mark, as `code_in` gave it, and a follower, by a lent table: 0 where there is none.
 pub fn paired_in(table: &[[u16; 53]; 13], code: u32, follower: u8) -> u32
-    ensures { λ r. ⌜ r ≡ pairedIn (now (table .entry)) code follower ⌝ }
+    ensures { λ r. ⌜ PairedInPromise (now (table .entry)) code follower r ⌝ }
 {
     if code < NO_CHARACTER {
         return 0;

@@ -1,17 +1,15 @@
 // The library for C: each function under its plain name, as include/oakentwirl.h declares it, over the proved function that does the work.
 use run::Answer;
 use tlx::CaseAnswer;
-ghost use mathlib.Core.Path.{_≡_};
-ghost use lib.ListN.{length};
-ghost use Rattle.text.specs.WriteAnswers.{writeAnswer, writeText, convertAnswer, convertText};
-ghost use Rattle.text_reading.specs.ReadAnswers.{readAnswer, readWords};
-ghost use Rattle.tlx.specs.CaseReading.{readCaseAnswer, readCaseWords};
-ghost use Rattle.case_writing.specs.FromParts.{writeCaseAnswer, writeCaseOctets};
+ghost use Rattle.text_reading.specs.Promises.{ReadPromise};
+ghost use Rattle.text.specs.Promises.{WritePromise, ConvertPromise};
+ghost use Rattle.tlx.specs.Promises.{ReadCasePromise};
+ghost use Rattle.case_writing.specs.Promises.{WriteCasePromise};
 
 // Reads a whole text.
 #[no_mangle]
 pub extern "C" fn oak_read(form: u32, text: &[u8], words: &mut [u32]) -> Answer
-    ensures { λ r. ⌜ (r ≡ readAnswer form (now (text .entry)) (length (now (words .entry)))) × (now (words .exit) ≡ readWords form (now (text .entry)) (now (words .entry))) ⌝ }
+    ensures { λ r. ⌜ ReadPromise form (now (text .entry)) (now (words .entry)) r (now (words .exit)) ⌝ }
 {
     text::read(form, text, words)
 }
@@ -19,7 +17,7 @@ pub extern "C" fn oak_read(form: u32, text: &[u8], words: &mut [u32]) -> Answer
 // Writes a list of words.
 #[no_mangle]
 pub extern "C" fn oak_write(form: u32, words: &[u32], text: &mut [u8]) -> Answer
-    ensures { λ r. ⌜ (r ≡ writeAnswer form (now (words .entry)) (length (now (text .entry)))) × (now (text .exit) ≡ writeText form (now (words .entry)) (now (text .entry))) ⌝ }
+    ensures { λ r. ⌜ WritePromise form (now (words .entry)) (now (text .entry)) r (now (text .exit)) ⌝ }
 {
     text::write(form, words, text)
 }
@@ -27,7 +25,7 @@ pub extern "C" fn oak_write(form: u32, words: &[u32], text: &mut [u8]) -> Answer
 // Converts a whole text from one form to another.
 #[no_mangle]
 pub extern "C" fn oak_convert(source: u32, target: u32, text: &[u8], out: &mut [u8]) -> Answer
-    ensures { λ r. ⌜ (r ≡ convertAnswer source target (now (text .entry)) (length (now (out .entry)))) × (now (out .exit) ≡ convertText source target (now (text .entry)) (now (out .entry))) ⌝ }
+    ensures { λ r. ⌜ ConvertPromise source target (now (text .entry)) (now (out .entry)) r (now (out .exit)) ⌝ }
 {
     text::convert(source, target, text, out)
 }
@@ -35,7 +33,7 @@ pub extern "C" fn oak_convert(source: u32, target: u32, text: &[u8], out: &mut [
 // Reads a TLX case.
 #[no_mangle]
 pub extern "C" fn oak_case_read(case: &[u8], words: &mut [u32]) -> CaseAnswer
-    ensures { λ r. ⌜ (r ≡ readCaseAnswer (now (case .entry)) (length (now (words .entry)))) × (now (words .exit) ≡ readCaseWords (now (case .entry)) (now (words .entry))) ⌝ }
+    ensures { λ r. ⌜ ReadCasePromise (now (case .entry)) (now (words .entry)) r (now (words .exit)) ⌝ }
 {
     tlx::read_case(case, words)
 }
@@ -48,7 +46,7 @@ pub extern "C" fn oak_case_write(
     octets: &[u8],
     case: &mut [u8],
 ) -> Answer
-    ensures { λ r. ⌜ (r ≡ writeCaseAnswer form (now (lengths .entry)) (now (octets .entry)) (length (now (case .entry)))) × (now (case .exit) ≡ writeCaseOctets form (now (lengths .entry)) (now (octets .entry)) (now (case .entry))) ⌝ }
+    ensures { λ r. ⌜ WriteCasePromise form (now (lengths .entry)) (now (octets .entry)) (now (case .entry)) r (now (case .exit)) ⌝ }
 {
     tlx::write_case(form, lengths, octets, case)
 }

@@ -8,12 +8,13 @@ use native.Mathlib.Nat.{add-zero, zero-add, add-suc, add-assoc}
 use native.Mathlib.Omega.{arith}
 use lib.ListN.{length, take, drop, length-append}
 use lib.Seq.{take-append-seam, drop-append-seam}
+use Rattle.run.specs.Loops.{Bounded, Passed}
 use Rattle.run.specs.Head.{Head, element, refused, none, Outcome, accepted, refusal, outcome}
 use Rattle.run.specs.Grammar.{Run, done, more, Reads, Stopped}
 use Rattle.run.specs.Answers.{given}
-use Rattle.run.specs.Before.{Standing, movedUp, whats, standing, thenBefore, beforeFrom, before}
+use Rattle.run.specs.Before.{Standing, movedUp, whats, standing, Piece, thenBefore, beforeFrom, before, Front}
 use Rattle.run.proofs.Outcomes.{accepts, refuses}
-use Rattle.run.proofs.Loops.{Bounded, Passed, halt}
+use Rattle.run.proofs.Loops.{halt}
 
 -- ---- where the pieces of a run begin
 
@@ -31,10 +32,6 @@ standing-moved k at (p ∷ ps) [] = refl
 standing-moved {A = A} k at (p ∷ ps) (e ∷ es) =
     ap (λ (l : List (Standing A)). record { what = e; place = k + at; size = length p } ∷ l)
     (standing-moved k (at + length p) ps es ∙ ap (λ (i : ℕ). standing i ps es) (sym (add-assoc k at (length p))))
-
--- each element stands where its piece begins, and takes that piece
-pub record Piece {X A : Type 0} (S : List X → A → Type 0) (s : List X) (a : Standing A) : Type 0 where
-  pub spells : S (take (a .size) (drop (a .place) s)) (a .what)
 
 piece-first : {X A : Type 0} {S : List X → A → Type 0} (b p t : List X) (e : A) → S p e
     → Piece S (b ++ (p ++ t)) (record { what = e; place = length b; size = length p })
@@ -148,11 +145,7 @@ module _ {X A : Type 0} {head : List X → Head A} {S : List X → A → Type 0}
   before-accepted s es q = let r = accepts laws s es .0 q in ap whats (before-all (r .1)) ∙ standing-whats 0 (r .1)
 
   -- Before a fault stand the elements of the accepted front, as many as the refusal says.
-  pub record Front (s : List X) (n p : ℕ) : Type 0 where
-    pub accepts-front : outcome head (take p s) ≡ accepted (whats (before head s))
-    pub as-many : n ≡ length (whats (before head s))
-
-  pub before-refused : (s : List X) (r n p d : ℕ) → outcome head s ≡ refusal r n p d → Front s n p
+  pub before-refused : (s : List X) (r n p d : ℕ) → outcome head s ≡ refusal r n p d → Front head s n p
   before-refused s r n p d q =
       let h = refuses laws s r n p d .0 q in
       let w : whats (before head s) ≡ h .elements = ap whats (before-fault h) ∙ standing-whats 0 (h .run .1) in

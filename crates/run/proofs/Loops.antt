@@ -14,20 +14,12 @@ use Rattle.run.specs.Grammar.{Run, done, more, Reads}
 use Rattle.run.specs.declared.Answer.{Answer}
 use Rattle.run.specs.Answers.{answer, countOf, given, writtenOf, roomyAnswer, roomFor}
 use Rattle.run.specs.Put.{Put}
+use Rattle.run.specs.Loops.{Bounded, Few, Passed, Counted, Filled}
 use Rattle.run.proofs.Outcomes.{outcome-none, outcome-stop, accepts, joined, joined-accepted}
 use Rattle.run.proofs.Answers.{given-more, given-length, given-front}
 use Rattle.run.proofs.Puts.{put-none, put-length, put-given, put-given-one, put-given-all}
 
 -- ---- how much an element gives, and a run of elements
-
--- an element of the grammar gives at most so many entries
-pub record Bounded {X A : Type 0} (S : List X → A → Type 0) (gives : A → List ℕ) (most : ℕ) : Type 0 where
-  pub bound : (p : List X) (e : A) → S p e → length (gives e) ≤ most
-
--- a list has no more elements than entries, and they give at most so many times as many
-pub record Few {A : Type 0} (gives : A → List ℕ) (most n : ℕ) (es : List A) : Type 0 where
-  pub few : length es ≤ n
-  pub short : length (given gives es) ≤ most * n
 
 pub run-few : {X A : Type 0} {head : List X → Head A} {S : List X → A → Type 0} (laws : Reads head S) {gives : A → List ℕ} {most : ℕ}
     (bounded : Bounded S gives most) {s : List X} {ps : List (List X)} {es : List A}
@@ -45,12 +37,6 @@ run-few laws {gives} {most} bounded (more {p} {s} {ps} {e} {es} sp r) =
     }
 
 -- ---- the place of a loop
-
--- up to the place `at` of s stand the elements es
-pub record Passed {X A : Type 0} (head : List X → Head A) (gives : A → List ℕ) (most : ℕ) (s : List X) (at : ℕ) (es : List A) : Type 0 where
-  pub inside : at ≤ length s
-  pub few : Few gives most at es
-  pub front : outcome head (take at s) ≡ accepted es
 
 module _ {X A : Type 0} {head : List X → Head A} {S : List X → A → Type 0} (laws : Reads head S) {gives : A → List ℕ} {most : ℕ}
     (bounded : Bounded S gives most) (s : List X) where
@@ -130,12 +116,6 @@ module _ {X A : Type 0} {head : List X → Head A} {S : List X → A → Type 0}
 
 -- ---- measuring: the numbers counted on the way
 
-pub record Counted {X A : Type 0} (head : List X → Head A) (gives : A → List ℕ) (most : ℕ) (s : List X) (at n count : ℕ) : Type 0 where
-  pub es : List A
-  pub passed : Passed head gives most s at es
-  pub number : n ≡ length es
-  pub counted : count ≡ length (given gives es)
-
 module _ {X A : Type 0} {head : List X → Head A} {S : List X → A → Type 0} (laws : Reads head S) {gives : A → List ℕ} {most : ℕ}
     (bounded : Bounded S gives most) (s : List X) where
   pub count-start : Counted head gives most s 0 0 0
@@ -184,12 +164,6 @@ module _ {X A : Type 0} {head : List X → Head A} {S : List X → A → Type 0}
     count-stop q z = rw (halt laws bounded s (was .passed) q, z, was .number)
 
 -- ---- filling: what was given so far stands over the buffer's first entries
-
-pub record Filled {X A : Type 0} (head : List X → Head A) (gives : A → List ℕ) (most : ℕ) (s : List X) (l₀ : List ℕ) (at o : ℕ) (l : List ℕ)
-    : Type 0 where
-  pub es : List A
-  pub passed : Passed head gives most s at es
-  pub put : Put l₀ 0 (given gives es) l o
 
 pub room-front : {A : Type 0} (gives : A → List ℕ) (es : List A) (k r : ℕ) (x : Outcome A) → roomFor gives r (join es k x)
     → length (given gives es) ≤ r

@@ -1,37 +1,35 @@
--- A promise that is an equation allows only one answer.
+-- Each promise of a public function allows only one answer; and how that is shown of a promise.
 -- Assumes nothing.
 use Prim.Native.Nat.{ℕ}
 use mathlib.Core.Path.{_≡_, sym, _∙_}
-use mathlib.Core.List.{List, [], _∷_}
+use mathlib.Core.List.{List}
 use Rattle.run.specs.Answers.{bare, shortRoom}
-use Rattle.run.specs.Put.{Put, whatFits}
+use Rattle.run.specs.Put.{Put}
+use Rattle.run.specs.OneAnswer.{Once, OnceBoth}
+use Rattle.run.specs.Promises.{BareAnswerPromise, ShortRoomPromise, PutPromise}
 
--- two results that are what was promised, of the same entry, are equal
-abbrev pub Once : {A : Type 0} → A → Type 0
-Once {A} promised = (r r′ : A) → r ≡ promised → r′ ≡ promised → r ≡ r′
+-- a promise by which the result is one thing
+pub once : {A : Type 0} (promise : A → Type 0) (one : A) → ((r : A) → promise r → r ≡ one) → Once promise
+once promise one is r r′ p q = is r p ∙ sym (is r′ q)
 
-pub once : {A : Type 0} (promised : A) → Once promised
-once promised r r′ p q = p ∙ sym q
+-- the same of a result and of a lent buffer
+pub once-both : {A B : Type 0} (promise : A → B → Type 0) (one : A) (held : B)
+    → ((r : A) (b : B) → promise r b → (r ≡ one) × (b ≡ held)) → OnceBoth promise
+once-both promise one held is r r′ b b′ p q =
+    let x = is r b p in
+    let y = is r′ b′ q in
+    (x .0 ∙ sym (y .0), x .1 ∙ sym (y .1))
 
--- the same of a result and of what a lent buffer holds at exit
-abbrev pub Once-both : {A B : Type 0} → A → B → Type 0
-Once-both {A} {B} promised held =
-    (r r′ : A) (b b′ : B) → (r ≡ promised) × (b ≡ held) → (r′ ≡ promised) × (b′ ≡ held) → (r ≡ r′) × (b ≡ b′)
+-- the same of what a writer leaves: the place and the buffer
+pub once-put : (out : List ℕ) (at : ℕ) (entries : List ℕ) → OnceBoth (λ (r : ℕ) (after : List ℕ). Put out at entries after r)
+once-put out at entries r r′ a a′ p q = (p .place ∙ sym (q .place), p .holds ∙ sym (q .holds))
 
-pub once-both : {A B : Type 0} (promised : A) (held : B) → Once-both promised held
-once-both promised held r r′ b b′ p q = (once promised r r′ (p .0) (q .0), once held b b′ (p .1) (q .1))
-
--- the same of what a writer leaves: the buffer and the place
-abbrev pub Once-put : List ℕ → ℕ → List ℕ → Type 0
-Once-put out at entries =
-    (a a′ : List ℕ) (r r′ : ℕ) → Put out at entries a r → Put out at entries a′ r′ → (a ≡ a′) × (r ≡ r′)
-
-pub once-put : (out : List ℕ) (at : ℕ) (entries : List ℕ) → Once-put out at entries
-once-put out at entries a a′ r r′ p q = (p .holds ∙ sym (q .holds), p .place ∙ sym (q .place))
-
--- Each public function's promise allows only one answer.
-pub table : (number needed at octet : ℕ) (out : List ℕ)
-    → Once (bare number)  -- bare_answer
-    × Once (shortRoom needed)  -- short_room
-    × Once-put out at (whatFits out at (octet ∷ []))  -- put
-table number needed at octet out = (once (bare number), once (shortRoom needed), once-put out at (whatFits out at (octet ∷ [])))
+pub one-answer : (number needed at octet : ℕ) (out : List ℕ)
+    → Once (BareAnswerPromise number)
+    × Once (ShortRoomPromise needed)
+    × OnceBoth (PutPromise out at octet)
+one-answer number needed at octet out = (
+  once (BareAnswerPromise number) (bare number) (λ r p. p),
+  once (ShortRoomPromise needed) (shortRoom needed) (λ r p. p),
+  once-put out at _,
+)

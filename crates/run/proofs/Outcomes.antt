@@ -3,13 +3,13 @@
 use mathlib.Core.Logic.{_↔_}
 use mathlib.Core.Path.{_≡_, refl, sym, _∙_, ap, ap₂, subst}
 use mathlib.Core.List.{List, [], _∷_, _++_, append-assoc, append-nil}
-use Prim.Native.Nat.{ℕ, zero, suc, _+_, _-_, _<_, _≤_}
+use Prim.Native.Nat.{ℕ, zero, suc, _+_, _-_}
 use native.Mathlib.Nat.{add-assoc, zero-add, add-zero}
 use native.Mathlib.Omega.{arith}
 use lib.ListN.{length, take, drop, length-append}
 use lib.Seq.{take-append-seam, drop-append-seam}
 use Rattle.run.specs.Head.{Head, element, refused, none, Outcome, accepted, refusal, join, from, outcome}
-use Rattle.run.specs.Grammar.{Run, done, more, RunOf, Reads, Stopped}
+use Rattle.run.specs.Grammar.{Run, done, more, RunOf, Reads, Stopped, Placed}
 
 -- joinings compose
 pub join-join : {A : Type 0} (es fs : List A) (k l : ℕ) (x : Outcome A) → join es k (join fs l x) ≡ join (es ++ fs) (k + l) x
@@ -39,12 +39,6 @@ pub run-append : {X A : Type 0} {S : List X → A → Type 0} {s t : List X} {ps
 run-append {qs = qs} done q = (qs, q)
 run-append {X = X} {S = S} {t = t} {fs = fs} (more {p} {s} {ps} {e} {es} sp r) q =
     let i = run-append r q in subst (λ (l : List X). RunOf S l (e ∷ es ++ fs)) (sym (append-assoc p s t)) (p ∷ i .0, more sp (i .1))
-
--- a refusal has a number, and its places are places of a list of n entries, or its end
-pub record Placed (n r p d : ℕ) : Type 0 where
-  pub number : 0 < r
-  pub place : p ≤ n
-  pub deciding : d ≤ n
 
 -- the same stop, by another rule for what is left
 pub stopped-by : {X A : Type 0} {S : List X → A → Type 0} {H K : List X → ℕ → Type 0} {s : List X} {n p d : ℕ} (h : Stopped S H s n p d)

@@ -9,13 +9,9 @@ use borrow.Author.Tests.{le-leb, lt-leb}
 use Rattle.run.specs.Head.{Head, Outcome, accepted, refusal, outcome}
 use Rattle.run.specs.Grammar.{Reads}
 use Rattle.run.specs.declared.Answer.{Answer}
-use Rattle.run.specs.Answers.{shortRoom, given, answerOf, writtenOf, roomyAnswer, roomFor, afterReading}
+use Rattle.run.specs.Answers.{shortRoom, given, answerOf, roomyAnswer, roomFor, afterReading}
+use Rattle.run.specs.Loops.{Numbered, WholeAnswer}
 use Rattle.run.proofs.Outcomes.{placed}
-
--- a refusal has a number
-abbrev pub Numbered : {A : Type 0} → Outcome A → Type 0
-Numbered (accepted es) = Unit {0}
-Numbered (refusal r n p d) = 0 < r
 
 pub numbered : {X A : Type 0} {head : List X → Head A} {S : List X → A → Type 0} → Reads head S → (s : List X) → Numbered (outcome head s)
 numbered {A = A} {head = head} laws s = go (outcome head s) refl
@@ -23,10 +19,6 @@ numbered {A = A} {head = head} laws s = go (outcome head s) refl
     go : (x : Outcome A) → outcome head s ≡ x → Numbered x
     go (accepted es) e = tt
     go (refusal r n p d) e = placed laws s r n p d e .number
-
--- the answer, and what the lent buffer l holds after
-abbrev pub WholeAnswer : {A : Type 0} → (A → List ℕ) → ℕ → List ℕ → Outcome A → Answer → List ℕ → Type 0
-WholeAnswer gives n l x a after = (a ≡ answerOf gives n (length l) x) × (after ≡ writtenOf gives l x)
 
 module _ {A : Type 0} (gives : A → List ℕ) (n : ℕ) (l : List ℕ) (m : Answer) where
   -- the first pass refused

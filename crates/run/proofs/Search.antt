@@ -1,14 +1,13 @@
 -- A look-up by key: what it finds is a member of the list; and a loop that goes through a table, place by place, finds the same.
 -- Assumes nothing.
-use Prim.Native.Nat.{ℕ, zero, suc, _+_, _-_, _≤_, _<_}
+use Prim.Native.Nat.{ℕ, zero, suc, _+_, _-_, _<_}
 use mathlib.Core.Path.{_≡_, refl, sym, ap, _∙_}
-use mathlib.Core.List.{List, [], _∷_, _++_, List·Memᴰ, List·Memᴰ·head, List·Memᴰ·tail, List·Memᴰ·not-nil, List·Memᴰ·cases-cons}
+use mathlib.Core.List.{List, [], _∷_, _++_, List·Memᴰ, List·Memᴰ·head, List·Memᴰ·tail}
 use mathlib.Core.Bool.{Bool, true, false}
-use mathlib.Core.Logic.{⊎-elim}
 use native.Mathlib.Numerals.{add-one}
 use native.Mathlib.Omega.{arith}
 use lib.Dec.{eqb}
-use borrow.Author.Tests.{eqb-true, eqb-false, eq-eqb, ne-eqb}
+use borrow.Author.Tests.{eqb-true, eq-eqb, ne-eqb}
 use Rattle.run.specs.Choice.{pick, firstBy}
 
 module _ {A B : Type 0} (key : A → ℕ) (gives : A → B) (missing : B) where
@@ -78,33 +77,3 @@ module _ {A B : Type 0} (key : A → ℕ) (gives : A → B) (missing : B) where
 
       pub at-end : (i : ℕ) → i ≡ size → Left i → missing ≡ answer
       at-end i e l = sym (l ∙ ap (λ (m : ℕ). firstBy key gives missing (filled i m) k) (let z : size - i ≡ 0 = omega arith in z))
-
-    -- an entry of the table stands at one of its places
-    pub record Place (a : A) (i n : ℕ) : Type 0 where
-      pub place : ℕ
-      pub from : i ≤ place
-      pub before : place < i + n
-      pub is-there : a ≡ at place
-      pub not-empty : table place ≡ 0 → ⊥
-
-    later : {a : A} {i n : ℕ} → Place a (suc i) n → Place a i (suc n)
-    later p =
-        record {
-          place = p .place;
-          from = omega (arith, p .from);
-          before = omega (arith, p .before);
-          is-there = p .is-there;
-          not-empty = p .not-empty;
-        }
-
-    place-here : {a : A} (i n : ℕ) → a ≡ at i → (table i ≡ 0 → ⊥) → Place a i (suc n)
-    place-here i n e z = record { place = i; from = omega arith; before = omega arith; is-there = e; not-empty = z }
-
-    place-by : {a : A} (i n : ℕ) (t : Bool) → eqb (table i) 0 ≡ t → (List·Memᴰ a (filled (suc i) n) → Place a (suc i) n)
-        → List·Memᴰ a (pick t (filled (suc i) n) (at i ∷ filled (suc i) n)) → Place a i (suc n)
-    place-by i n true q ih m = later (ih m)
-    place-by i n false q ih m = ⊎-elim (λ e. place-here i n e (eqb-false (table i) 0 q)) (λ h. later (ih h)) (List·Memᴰ·cases-cons m)
-
-    pub placed : {a : A} (i n : ℕ) → List·Memᴰ a (filled i n) → Place a i n
-    placed i zero m = absurd (List·Memᴰ·not-nil m)
-    placed i (suc n) m = place-by i n (eqb (table i) 0) refl (placed (suc i) n) m

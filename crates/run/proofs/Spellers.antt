@@ -7,11 +7,11 @@ use mathlib.Core.Logic.{_↔_}
 use mathlib.Core.List.{List, [], _∷_, _++_}
 use native.Mathlib.Omega.{arith}
 use lib.ListN.{length}
+use Rattle.run.specs.Loops.{Bounded}
 use Rattle.run.specs.Head.{Head, element, refused, none}
 use Rattle.run.specs.Grammar.{Begins, Reads}
 use Rattle.run.specs.Answers.{same}
-use Rattle.run.specs.Speller.{SpeltBy, entriesOr10, speltHead, speltBy}
-use Rattle.run.proofs.Loops.{Bounded}
+use Rattle.run.specs.Speller.{SpeltBy, entriesOr10, speltHead, speltBy, Why, by-head, not-spelt}
 
 -- ---- grammars that say the same
 
@@ -85,20 +85,15 @@ module _ {X A : Type 0} (speller : A → List ℕ) (head : List X → Head A) wh
   pub spelt-none : {t : List X} → head t ≡ none → speltBy speller head t ≡ none
   spelt-none q = ap (speltHead speller) q
 
-  -- a refusal is the head's, or 10 at an element of which the speller gives nothing
-  pub data Why (t : List X) (r d : ℕ) : Type 0 where
-    by-head : head t ≡ refused r d → Why t r d
-    not-spelt : {e : A} {k : ℕ} → head t ≡ element e k → speller e ≡ [] → r ≡ 10 → d ≡ 0 → Why t r d
-
   why-not : (t : List X) (e : A) (k : ℕ) → head t ≡ element e k → (s : List ℕ) → speller e ≡ s → (r d : ℕ) → entriesOr10 s k ≡ refused r d
-      → Why t r d
+      → Why speller head t r d
   why-not t e k q [] g r d z =
       let er : r ≡ 10 = cc in
       let ed : d ≡ 0 = cc in
       not-spelt q g er ed
   why-not t e k q (o ∷ s) g r d z = let w : _≡_ {A = ℕ} 0 1 = cc in absurd (omega arith)
 
-  why-by : (t : List X) (h : Head A) → head t ≡ h → (r d : ℕ) → speltHead speller h ≡ refused r d → Why t r d
+  why-by : (t : List X) (h : Head A) → head t ≡ h → (r d : ℕ) → speltHead speller h ≡ refused r d → Why speller head t r d
   why-by t (element e k) q r d z = why-not t e k q (speller e) refl r d z
   why-by t (refused r′ d′) q r d z =
       let er : r′ ≡ r = cc in
@@ -106,7 +101,7 @@ module _ {X A : Type 0} (speller : A → List ℕ) (head : List X → Head A) wh
       by-head (q ∙ ap₂ refused er ed)
   why-by t none q r d z = let w : _≡_ {A = ℕ} 0 1 = cc in absurd (omega arith)
 
-  pub why : (t : List X) (r d : ℕ) → speltBy speller head t ≡ refused r d → Why t r d
+  pub why : (t : List X) (r d : ℕ) → speltBy speller head t ≡ refused r d → Why speller head t r d
   why t r d z = why-by t (head t) refl r d z
 
 module _ {X A : Type 0} {head : List X → Head A} {S : List X → A → Type 0} (laws : Reads head S) (speller : A → List ℕ) where

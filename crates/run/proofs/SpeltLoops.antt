@@ -5,6 +5,7 @@ use Prim.Native.Nat.{ℕ, _+_, _*_, _≤_, _<_}
 use mathlib.Core.Path.{_≡_, refl, sym, _∙_}
 use mathlib.Core.List.{List}
 use lib.ListN.{length, drop}
+use Rattle.run.specs.Loops.{Counted, Filled}
 use Rattle.run.specs.Head.{Head, element, refused, outcome}
 use Rattle.run.specs.Grammar.{Reads}
 use Rattle.run.specs.declared.Answer.{Answer}
@@ -13,7 +14,6 @@ use Rattle.run.specs.Put.{Put, whatFits}
 use Rattle.run.specs.Speller.{speltBy}
 use Rattle.run.proofs.Puts.{put-fits}
 use Rattle.run.proofs.Loops as loops
-use Rattle.run.proofs.Loops.{Counted, Filled}
 use Rattle.run.proofs.Spellers.{spelt-here, spelt-not, spelt-refused, spelt-reads, spelt-bounded}
 
 module _ {X A : Type 0} {head : List X → Head A} {S : List X → A → Type 0} (laws : Reads head S) (speller : A → List ℕ) {most : ℕ}

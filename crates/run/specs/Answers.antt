@@ -1,4 +1,5 @@
--- The four numbers of an answer, and what a lent buffer holds after ("The numbers an answer carries"). What each part is stands above it.
+-- To be believed: the four numbers of an answer, and what a lent buffer holds after ("The numbers an answer carries"). Below, where it is
+-- said: what is proved equal to 01's tables, and parts of the code.
 -- Assumes nothing.
 use Prim.Native.Nat.{ℕ, _≤_}
 use mathlib.Core.List.{List, [], _∷_, _++_}

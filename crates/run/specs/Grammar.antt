@@ -1,4 +1,5 @@
--- To be believed: a run of elements, by a grammar that says which entries spell which element; and what a head promises of that grammar.
+-- To be believed: a run of elements, by a grammar that says which entries spell which element (`Run`, `RunOf`, `Begins`), and where a
+-- list stops (`Stopped`). Beside them what is proved of each head (`Reads`), and of its refusals (`Placed`, proofs/Outcomes: placed).
 -- Assumes nothing.
 use Prim.Native.Nat.{ℕ, _+_, _≤_, _<_}
 use mathlib.Core.Path.{_≡_}
@@ -52,3 +53,9 @@ pub record Stopped {X A : Type 0} (S : List X → A → Type 0) (Here : List X �
   pub element-number : n ≡ length elements
   pub first-place : p ≡ length front
   pub deciding : d ≡ length front + behind
+
+-- a refusal has a number, and its places are places of a list of n entries, or its end
+pub record Placed (n r p d : ℕ) : Type 0 where
+  pub number : 0 < r
+  pub place : p ≤ n
+  pub deciding : d ≤ n

@@ -1,6 +1,6 @@
--- What stands at the head of a list, and what a whole list comes to, element after element. To be believed; `outcome` is proved equal
--- to the runs and refusals of Grammar (proofs/Outcomes). Reading a text and writing a list of words have this one shape: entries, X,
--- are octets or words, A is what an element is known by.
+-- Proved equal to the runs and refusals of Grammar (proofs/Outcomes: accepts, refuses): what stands at the head of a list, and what a whole
+-- list comes to, element after element. Reading a text and writing a list of words have this one shape: entries, X, are octets or words, A
+-- is what an element is known by.
 -- Assumes nothing.
 use Prim.Native.Nat.{ℕ, zero, suc, _+_, _-_}
 use mathlib.Core.List.{List, [], _∷_, _++_}

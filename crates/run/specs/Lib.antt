@@ -3,6 +3,9 @@ pub mod Head
 pub mod Grammar
 pub mod Answers
 pub mod Put
+pub mod OneAnswer
+pub mod Promises
+pub mod Loops
 pub mod Speller
 pub mod Tagged
 pub mod Before

@@ -1,4 +1,5 @@
--- A head whose elements are known by what a speller gives of them. The grammar is to be believed, the head is proved to read it.
+-- To be believed, `SpeltBy`: a grammar whose elements are known by what a speller gives of them. Proved to read it (proofs/Spellers:
+-- spelt-reads), the head `speltBy`. Of a head, and so a word of laws: `Why` it refuses (proofs/Spellers: why).
 -- Assumes nothing.
 use Prim.Native.Nat.{ℕ}
 use mathlib.Core.Path.{_≡_}
@@ -25,3 +26,8 @@ speltHead speller none = none
 
 abbrev pub speltBy : {X A : Type 0} → (A → List ℕ) → (List X → Head A) → List X → Head (List ℕ)
 speltBy speller head s = speltHead speller (head s)
+
+-- why it refuses: as the head does, or with 10 at an element of which the speller gives nothing
+pub data Why {X A : Type 0} (speller : A → List ℕ) (head : List X → Head A) (t : List X) (r d : ℕ) : Type 0 where
+  by-head : head t ≡ refused r d → Why speller head t r d
+  not-spelt : {e : A} {k : ℕ} → head t ≡ element e k → speller e ≡ [] → r ≡ 10 → d ≡ 0 → Why speller head t r d

@@ -1,4 +1,5 @@
--- A head whose elements carry something made from their own entries. The grammar is to be believed, the head is proved to read it.
+-- To be believed, `Tagged`: a grammar whose elements carry something made from their own entries. Proved to read it (proofs/Tags:
+-- tagged-reads), the head `tagged`.
 -- Assumes nothing.
 use mathlib.Core.Path.{_≡_}
 use mathlib.Core.List.{List, map}

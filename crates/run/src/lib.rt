@@ -1,8 +1,5 @@
 // The four numbers that every answer carries (document 01, "The numbers an answer carries"), and writing an octet.
-ghost use mathlib.Core.Path.{_≡_};
-ghost use mathlib.Core.List.{_∷_, []};
-ghost use Rattle.run.specs.Answers.{bare, shortRoom};
-ghost use Rattle.run.specs.Put.{Put, whatFits};
+ghost use Rattle.run.specs.Promises.{BareAnswerPromise, ShortRoomPromise, PutPromise};
 
 #[repr(C)]
 pub struct Answer {
@@ -18,7 +15,7 @@ pub struct Answer {
 
 // A refusal that carries no place.
 pub fn bare_answer(number: usize) -> Answer
-    ensures { λ r. ⌜ r ≡ bare number ⌝ }
+    ensures { λ r. ⌜ BareAnswerPromise number r ⌝ }
 {
     Answer {
         number,
@@ -30,7 +27,7 @@ pub fn bare_answer(number: usize) -> Answer
 
 // 9: "lent room is short", with the room needed.
 pub fn short_room(needed: usize) -> Answer
-    ensures { λ r. ⌜ r ≡ shortRoom needed ⌝ }
+    ensures { λ r. ⌜ ShortRoomPromise needed r ⌝ }
 {
     Answer {
         number: 9,
@@ -42,7 +39,7 @@ pub fn short_room(needed: usize) -> Answer
 
 // Writes one octet where there is room for it; the place behind what was written.
 pub fn put(out: &mut [u8], at: usize, octet: u8) -> usize
-    ensures { λ r. ⌜ Put (now (out .entry)) at (whatFits (now (out .entry)) at (octet ∷ [])) (now (out .exit)) r ⌝ }
+    ensures { λ r. ⌜ PutPromise (now (out .entry)) at octet r (now (out .exit)) ⌝ }
 {
     if at < out.len() {
         out[at] = octet;

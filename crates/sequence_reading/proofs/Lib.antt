@@ -3,4 +3,6 @@ pub mod Reach
 mod Places
 pub mod Reader
 pub mod Refusals
+pub mod EightValues
+pub mod NumbersExactly
 pub mod OneAnswer

@@ -12,8 +12,9 @@ use Rattle.sequence_reading.specs.declared.Next.{Next}
 use Rattle.sequence_reading.specs.declared.Next.the-variants.{More, Value, Last, Bad}
 use Rattle.sequence_reading.specs.declared.Values.{Values}
 use Rattle.sequence_reading.specs.declared.Reading.the-variants.{Whole, Refused, End}
-use Rattle.sequence_reading.specs.Kinds.{CSI}
-use Rattle.sequence_reading.specs.Reading.{Fair, stepOf, after, scan, begun, sequenceHead, valuesOf, listOf, readingAt}
+use Rattle.sorts.specs.Forms.{CSI}
+use Rattle.sequence_reading.specs.EightValues.{valuesOf, listOf}
+use Rattle.sequence_reading.specs.SequenceHead.{Fair, stepOf, after, scan, begun, sequenceHead, readingAt}
 use Rattle.sequence_reading.proofs.Reach.{snoc-length, Standing, standing-fair, standing-start, Says, step-says}
 use Rattle.sequence_reading.proofs.Reader.{foreign-refused}
 
@@ -77,6 +78,7 @@ module _ (text : List ℕ) (at : ℕ) where
     pub fair : Fair s
     pub held : listOf values ≡ padTo 8 closed
     pub place : i ≡ at + s .taken
+    pub inside : i ≤ length text
     pub same : scan closed s (drop i text) ≡ sequenceHead (drop at text)
 
   pub reached-start : at < length text → getD text at 0 ≡ CSI → Reached (valuesOf []) begun (at + 1)
@@ -89,6 +91,7 @@ module _ (text : List ℕ) (at : ℕ) where
         fair = standing-fair standing-start;
         held = refl;
         place = refl;
+        inside = omega arith;
         same = rw (add-one, drop-cons text at 0 h, e);
       }
 
@@ -118,6 +121,7 @@ module _ (text : List ℕ) (at : ℕ) where
           fair = standing-fair g;
           held = r .held;
           place = taken-more g;
+          inside = omega arith;
           same = sym (scan-at (r .closed) s i (More t) h e) ∙ r .same;
         }
 
@@ -139,6 +143,7 @@ module _ (text : List ℕ) (at : ℕ) where
           fair = standing-fair g;
           held = closes l;
           place = taken-more g;
+          inside = omega arith;
           same = sym (scan-at (r .closed) s i (Value t) h e) ∙ r .same;
         }
 
@@ -156,6 +161,8 @@ module _ (text : List ℕ) (at : ℕ) where
     unfolding readingAt
     reached-bad n e = rw (← r .same, scan-at (r .closed) s i (Bad n) h e, ← r .place)
 
-  pub reached-end : (values : Values) (s : Scan) (i : ℕ) → Reached values s i → length text ≤ i → Refused 4 i ≡ readingAt text at
+  pub reached-end : (values : Values) (s : Scan) (i : ℕ) → Reached values s i → length text ≤ i
+      → Refused 4 (length text) ≡ readingAt text at
   unfolding readingAt scan
-  reached-end values s i r h = rw (← r .same, drop-of-length-le text h, ← r .place)
+  reached-end values s i r h =
+      rw (← r .same, drop-of-length-le text h, ← r .place) (ap (Refused 4) (omega (arith, r .inside)))

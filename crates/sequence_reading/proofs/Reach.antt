@@ -11,19 +11,20 @@ use Rattle.run.specs.Choice.{pick}
 use Rattle.run.specs.Head.{Head, element, refused, none}
 use Rattle.run.specs.Grammar.{Begins}
 use Rattle.run.proofs.Choices.{pick-case}
+use Rattle.sorts.specs.Forms.{CSI}
 use Rattle.sequence_reading.specs.declared.Kind.{Kind}
 use Rattle.sequence_reading.specs.declared.Kind.the-variants.{Digit, Separator, Middle, Final, Other}
 use Rattle.sequence_reading.specs.declared.Scan.{Scan}
 use Rattle.sequence_reading.specs.declared.Next.{Next}
 use Rattle.sequence_reading.specs.declared.Next.the-variants.{More, Value, Last, Bad}
-use Rattle.sequence_reading.specs.Kinds.{CSI, kindOf}
+use Rattle.sequence_reading.specs.Kinds.{kindOf}
 use Rattle.sequence_reading.specs.Grammar as grammar
 use Rattle.sequence_reading.specs.Grammar.{Sequence, Decimal, empty, digit, Parameters, single, joined, Intermediate, one, Small}
 use Rattle.sequence_reading.specs.Grammar.{lastOf, Inside, SpellsSequence, sequence, NotAllowed, no-kind, late-digit, late-separator}
 use Rattle.sequence_reading.specs.Grammar.{second-middle, Passes, passes-999, ninth, Goes, digit-goes, separator-goes, middle-goes}
 use Rattle.sequence_reading.specs.Grammar.{RefusesSequence, ends, not-allowed, passes, fortieth}
-use Rattle.sequence_reading.specs.Reading.{Fair, unlessLate, unlessFull, digitStep, valueStep, middleStep, kindStep, stepOf, after}
-use Rattle.sequence_reading.specs.Reading.{scan, begun, sequenceHead}
+use Rattle.sequence_reading.specs.SequenceHead.{Fair, unlessLate, unlessFull, digitStep, valueStep, middleStep, kindStep, stepOf}
+use Rattle.sequence_reading.specs.SequenceHead.{after, scan, begun, sequenceHead}
 use Rattle.sequence_reading.proofs.Steps.{middle-says, is-late, not-late, is-full, not-full, digit-passes, digit-within}
 use Rattle.sequence_reading.proofs.Steps.{value-passes, value-within, middle-within, step-as}
 

@@ -1,21 +1,20 @@
 -- The reader answers exactly what the grammar says.
 -- Assumes nothing.
-use Prim.Native.Nat.{ℕ, _+_, _≤_, _<_}
-use mathlib.Core.Path.{_≡_, refl, ap, _∙_, subst}
+use Prim.Native.Nat.{ℕ, _≤_, _<_}
+use mathlib.Core.Path.{_≡_, refl, subst}
 use mathlib.Core.List.{List, [], _∷_}
 use mathlib.Core.Bool.{Bool, true, false}
 use mathlib.Core.Logic.{_↔_}
 use native.Mathlib.Omega.{arith}
 use lib.Dec.{eqb}
-use lib.ListN.{length, drop, length-append}
+use lib.ListN.{length, length-append}
 use borrow.Author.Tests.{eqb-true, eqb-false, ne-eqb}
 use Rattle.run.specs.Choice.{pick}
 use Rattle.run.specs.Head.{Head, element, refused, none}
 use Rattle.run.specs.Grammar.{Begins, Reads}
-use Rattle.sequence_reading.specs.declared.Reading.the-variants.{Refused}
-use Rattle.sequence_reading.specs.Kinds.{CSI}
+use Rattle.sorts.specs.Forms.{CSI}
 use Rattle.sequence_reading.specs.Grammar.{Sequence, SpellsSequence, sequence, RefusesSequence, ends, not-allowed, passes, fortieth}
-use Rattle.sequence_reading.specs.Reading.{scan, begun, sequenceHead, readingOf, readingAt, readingNumber}
+use Rattle.sequence_reading.specs.SequenceHead.{scan, begun, sequenceHead}
 use Rattle.sequence_reading.proofs.Reach.{snoc-length, Tells, view, standing-start, spelling-found, refusal-found}
 
 head-tells : (t : List ℕ) → Tells (CSI ∷ t) (sequenceHead (CSI ∷ t))
@@ -84,15 +83,6 @@ sequence-reads =
       numbered = λ s r d x. inside (beginning s) r d x .0;
       inside = λ s r d x. inside (beginning s) r d x .1;
     }
-
--- The answer at a place has the number that the grammar refuses with, at the deciding octet's place.
-pub reading-refused : (text : List ℕ) (at : ℕ) (t : List ℕ) (r d : ℕ) → drop at text ≡ CSI ∷ t → RefusesSequence (CSI ∷ t) r d
-    → (readingAt text at ≡ Refused r (at + d)) × (readingNumber (readingAt text at) ≡ r)
-unfolding readingAt
-reading-refused text at t r d e h =
-    let q : readingAt text at ≡ Refused r (at + d) =
-    ap (λ (u : List ℕ). readingOf at (sequenceHead u)) e ∙ ap (readingOf at) (refuses-exactly t r d .1 h) in
-    (q, ap readingNumber q)
 
 spelt-eight : {p : List ℕ} {q : Sequence} → SpellsSequence p q → length (q .values) ≤ 8
 spelt-eight (sequence b h e) = h .eight

@@ -8,10 +8,10 @@ use native.Mathlib.Omega.{arith}
 use lib.ListN.{length, take}
 use lib.Seq.{take-append-add, take-append-seam, take-length}
 use Rattle.run.specs.Head.{Head, refused}
-use Rattle.sequence_reading.specs.Kinds.{CSI}
-use Rattle.sequence_reading.specs.Grammar.{Sequence, Inside, SpellsSequence, sequence, RefusesSequence, ends, not-allowed, passes}
+use Rattle.sorts.specs.Forms.{CSI}
+use Rattle.sequence_reading.specs.Grammar.{Sequence, Inside, SpellsSequence, sequence, RefusesSequence, ends, not-allowed, passes, Goes-on}
 use Rattle.sequence_reading.specs.Grammar.{fortieth}
-use Rattle.sequence_reading.specs.Reading.{sequenceHead}
+use Rattle.sequence_reading.specs.SequenceHead.{sequenceHead}
 use Rattle.sequence_reading.proofs.Steps.{kind-final}
 use Rattle.sequence_reading.proofs.Reach.{Tells, refusal-found}
 use Rattle.sequence_reading.proofs.Reader.{refuses-exactly, Beginning, nothing, foreign, told, beginning, foreign-refused}
@@ -44,14 +44,6 @@ inside-before (ends {s} {vs} {m} h) = (m, vs, rw (take-length s) h)
 inside-before (not-allowed {s} {vs} {m} b t h n) = (m, vs, rw (take-append-seam s (b ∷ t)) h)
 inside-before (passes {s} {vs} b t h n) = (0, vs, rw (take-append-seam s (b ∷ t)) h)
 inside-before (fortieth {s} {vs} {m} b t h l n) = (m, vs, rw (take-append-seam s (b ∷ t)) h)
-
--- what stands before the deciding octet, continued to a whole sequence
-pub record Goes-on (s : List ℕ) (d : ℕ) : Type 0 where
-  pub more : List ℕ
-  pub rest : List ℕ
-  pub found : Sequence
-  pub whole : take d s ++ more ≡ CSI ∷ rest
-  pub spells : SpellsSequence (CSI ∷ rest) found
 
 -- What stands before the deciding octet can be continued to a whole sequence: by a final.
 pub goes-on : {s : List ℕ} {r d : ℕ} → RefusesSequence s r d → Goes-on s d

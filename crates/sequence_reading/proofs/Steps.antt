@@ -14,7 +14,7 @@ use Rattle.sequence_reading.specs.declared.Scan.{Scan}
 use Rattle.sequence_reading.specs.declared.Next.{Next}
 use Rattle.sequence_reading.specs.declared.Next.the-variants.{More, Value, Bad}
 use Rattle.sequence_reading.specs.Kinds.{kindOf}
-use Rattle.sequence_reading.specs.Reading.{unlessLate, unlessFull, kindStep, digitStep, valueStep, middleStep, stepOf}
+use Rattle.sequence_reading.specs.SequenceHead.{unlessLate, unlessFull, kindStep, digitStep, valueStep, middleStep, stepOf}
 
 -- ---- a kind
 

@@ -4,10 +4,11 @@
 use Prim.Native.Nat.{ℕ, _+_, _*_, _≤_, _<_}
 use mathlib.Core.Path.{_≡_}
 use mathlib.Core.List.{List, [], _∷_, _++_}
-use lib.ListN.{length}
+use lib.ListN.{length, take}
+use Rattle.sorts.specs.Forms.{CSI}
 use Rattle.sequence_reading.specs.declared.Kind.{Kind}
 use Rattle.sequence_reading.specs.declared.Kind.the-variants.{Digit, Separator, Middle, Final, Other}
-use Rattle.sequence_reading.specs.Kinds.{CSI, kindOf}
+use Rattle.sequence_reading.specs.Kinds.{kindOf}
 
 -- a sequence: its intermediate (0 if none), its final, its values
 pub record Sequence : Type 0 where
@@ -41,8 +42,8 @@ lastOf [] = 0
 lastOf (v ∷ []) = v
 lastOf (v ∷ (w ∷ vs)) = lastOf (w ∷ vs)
 
--- All of a sequence but its final: "9B, parameter octets, at most one intermediate", within the limits: "At most 8 values, each at
--- most 999, and 40 octets in all, 9B counted", so 39 before the final.
+-- All of a sequence but its final: "9B, parameter octets (30 to 39, 3B), at most one intermediate (20 to 2F)", within the limits: "At most
+-- 8 values, each at most 999, and 40 octets in all, 9B counted", so 39 before the final.
 pub record Inside (octets : List ℕ) (middle : ℕ) (values : List ℕ) : Type 0 where
   pub parameters : List ℕ
   pub intermediate : List ℕ
@@ -89,3 +90,11 @@ pub data RefusesSequence : List ℕ → ℕ → ℕ → Type 0 where
   -- 8: "the 40th octet of a sequence isn't its final"
   fortieth : {s vs : List ℕ} {m : ℕ} (b : ℕ) (t : List ℕ) → Inside s m vs → length s ≡ 39 → Goes m vs (kindOf b)
       → RefusesSequence (s ++ (b ∷ t)) 8 (length s)
+
+-- what stands before the deciding octet, continued to a whole sequence
+pub record Goes-on (s : List ℕ) (d : ℕ) : Type 0 where
+  pub more : List ℕ
+  pub rest : List ℕ
+  pub found : Sequence
+  pub whole : take d s ++ more ≡ CSI ∷ rest
+  pub spells : SpellsSequence (CSI ∷ rest) found

@@ -1,3 +1,6 @@
 pub mod Kinds
 pub mod Grammar
-pub mod Reading
+pub mod EightValues
+pub mod SequenceHead
+pub mod SequenceNumbers
+pub mod Promises

@@ -1,10 +1,10 @@
 // One control sequence of form 3, read at a place.
 ghost use mathlib.Core.Path.{_≡_};
 ghost use Prim.Native.Nat.{_<_};
-ghost use lib.ListN.{set, getD};
-ghost use Rattle.sequence_reading.specs.Kinds.{kindOf};
-ghost use Rattle.sequence_reading.specs.Reading.{Fair, unlessLate, unlessFull, digitStep, valueStep, middleStep, stepOf};
-ghost use Rattle.sequence_reading.specs.Reading.{listOf, readingAt};
+ghost use lib.ListN.{set};
+ghost use Rattle.sequence_reading.specs.SequenceHead.{Fair, unlessLate, unlessFull, digitStep, valueStep, middleStep, stepOf};
+ghost use Rattle.sequence_reading.specs.EightValues.{listOf};
+ghost use Rattle.sequence_reading.specs.Promises.{KindOfPromise, ValueAtPromise, ReadSequencePromise};
 
 // What an octet is inside a sequence, and what it means there.
 pub enum Kind {
@@ -63,7 +63,7 @@ pub enum Reading {
 
 // 01: "parameter octets (30 to 39, 3B), at most one intermediate (20 to 2F), one final (40 to 7E)".
 pub fn kind_of(b: u8) -> Kind
-    ensures { λ r. ⌜ r ≡ kindOf b ⌝ }
+    ensures { λ r. ⌜ KindOfPromise b r ⌝ }
 {
     match b {
         0x30..=0x39 => Kind::Digit(b - 0x30),
@@ -197,7 +197,7 @@ fn stored(v: Values, k: usize, x: u32) -> Values
 
 // The value at an index; past the eight it is 0.
 pub fn value_at(v: Values, k: usize) -> u32
-    ensures { λ r. ⌜ r ≡ getD (listOf v) k 0 ⌝ }
+    ensures { λ r. ⌜ ValueAtPromise v k r ⌝ }
 {
     match k {
         0 => v.v0,
@@ -215,12 +215,12 @@ pub fn value_at(v: Values, k: usize) -> u32
 // Reads the sequence at `at`. A place where no 9B stands is refused at once; 01: "Asked at or past the end of the text, it answers that
 // none is left."
 pub fn read_sequence(text: &[u8], at: usize) -> Reading
-    ensures { λ r. ⌜ r ≡ readingAt (now (text .entry)) at ⌝ }
+    ensures { λ r. ⌜ ReadSequencePromise (now (text .entry)) at r ⌝ }
 {
     if text.len() <= at {
         return Reading::End;
     }
-    if text[at] != 0x9B {
+    if text[at] != sorts::CSI {
         return Reading::Refused {
             number: 6,
             deciding: at,
@@ -274,6 +274,6 @@ pub fn read_sequence(text: &[u8], at: usize) -> Reading
     // 01: "input ends inside an element", and its count is the input length.
     Reading::Refused {
         number: 4,
-        deciding: i,
+        deciding: text.len(),
     }
 }

@@ -7,7 +7,7 @@ use mathlib.Core.Logic.{_⊎_, inl, inr}
 use lib.ListN.{length}
 use Rattle.run.specs.Head.{element}
 use Rattle.sequence_reading.specs.Grammar.{Sequence, Intermediate, none, one, SpellsSequence, sequence}
-use Rattle.sequence_reading.specs.Reading.{sequenceHead}
+use Rattle.sequence_reading.specs.SequenceHead.{sequenceHead}
 use Rattle.sequence_spelling.specs.SequenceOctets.{Fine, spellSequence}
 use Rattle.sequence_reading.proofs.Steps.{middle-says, final-says}
 use Rattle.sequence_reading.proofs.Reach.{some-value}

@@ -11,7 +11,7 @@ use lib.ListN.{length, length-append}
 use borrow.Author.Tests.{lt-ltb, le-ltb, ltb-true, ltb-false, le-leb, leb-true, eq-eqb, ne-eqb, eqb-true}
 use Rattle.run.specs.Choice.{pick, within}
 use Rattle.run.proofs.Choices.{pick-case, both-true, within-range}
-use Rattle.sequence_reading.specs.Kinds.{CSI}
+use Rattle.sorts.specs.Forms.{CSI}
 use Rattle.sequence_reading.specs.Grammar as grammar
 use Rattle.sequence_reading.specs.Grammar.{Sequence, Decimal, empty, digit, Parameters, Intermediate, Small, Inside, SpellsSequence}
 use Rattle.sequence_reading.specs.Grammar.{sequence}

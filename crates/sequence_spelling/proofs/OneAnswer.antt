@@ -2,11 +2,15 @@
 -- Assumes nothing.
 use Prim.Native.Nat.{ℕ}
 use mathlib.Core.List.{List}
-use Rattle.run.proofs.OneAnswer.{Once, once, Once-put, once-put}
-use Rattle.sequence_reading.specs.Grammar.{Sequence}
-use Rattle.sequence_spelling.specs.SequenceOctets.{sizeOf, putSequence}
+use Rattle.run.specs.OneAnswer.{Once, OnceBoth}
+use Rattle.run.proofs.OneAnswer.{once, once-put}
+use Rattle.sequence_spelling.specs.SequenceOctets.{sizeOf}
+use Rattle.sequence_spelling.specs.Promises.{SequenceSizePromise, PutSequencePromise}
 
-pub table : (q : Sequence) (out : List ℕ) (at : ℕ)
-    → Once (sizeOf q)  -- sequence_size
-    × Once-put out at (putSequence out at q)  -- put_sequence
-table q out at = (once (sizeOf q), once-put out at (putSequence out at q))
+pub one-answer : (middle last : ℕ) (values out : List ℕ) (at : ℕ)
+    → Once (SequenceSizePromise middle last values)
+    × OnceBoth (PutSequencePromise middle last values out at)
+one-answer middle last values out at = (
+  once (SequenceSizePromise middle last values) (sizeOf (record { middle = middle; last = last; values = values })) (λ r p. p),
+  once-put out at _,
+)

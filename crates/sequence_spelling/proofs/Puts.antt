@@ -10,7 +10,7 @@ use lib.ListN.{length, getD, drop, length-append, drop-of-length-le}
 use lib.Seq.{drop-cons}
 use Rattle.run.specs.Put.{Put, whatFits}
 use Rattle.run.proofs.Puts.{put-none, put-both, put-as, put-length, put-one, all-fit, none-fits}
-use Rattle.sequence_reading.specs.Kinds.{CSI}
+use Rattle.sorts.specs.Forms.{CSI}
 use Rattle.sequence_reading.specs.Grammar.{Sequence, Small}
 use Rattle.sequence_spelling.specs.SequenceOctets.{Fine, digitsOf, spellRest, spellValues, spellMiddle, spellSequence, isFine, sizeOf}
 use Rattle.sequence_spelling.specs.SequenceOctets.{putSequence}

@@ -1,1 +1,2 @@
 pub mod SequenceOctets
+pub mod Promises

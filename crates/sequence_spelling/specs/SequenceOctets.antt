@@ -1,5 +1,5 @@
--- The canonical spelling of a control sequence: to be believed, as a relation in document 01's words; and proved equal to that, the
--- definition that gives it (Exactly: canonical-exactly, fine-test).
+-- To be believed, as a relation in document 01's words: the canonical spelling of a control sequence. Proved equal to that, the definition
+-- that gives it (Exactly: canonical-exactly, fine-test).
 -- Assumes nothing.
 use Prim.Native.Nat.{ℕ, _+_, _*_, _/_, _%_, _≤_, _<_}
 use mathlib.Core.Path.{_≡_}
@@ -10,7 +10,7 @@ use lib.ListN.{length}
 use lib.Dec.{leb, ltb, eqb}
 use Rattle.run.specs.Choice.{pick, within}
 use Rattle.run.specs.Put.{whatFits}
-use Rattle.sequence_reading.specs.Kinds.{CSI}
+use Rattle.sorts.specs.Forms.{CSI}
 use Rattle.sequence_reading.specs.Grammar.{Sequence, Small}
 
 -- ---- the relation: "Values have no leading zeros, 0 is the empty sub-string, and the number of values is kept."

@@ -4,7 +4,8 @@ ghost use Prim.Native.Nat.{_+_, _%_, _≤_};
 ghost use lib.ListN.{length, drop};
 ghost use Rattle.run.specs.Put.{Put};
 ghost use Rattle.sequence_spelling.specs.SequenceOctets.{digitsOf, spellRest, spellMiddle, spellSequence};
-ghost use Rattle.sequence_spelling.specs.SequenceOctets.{isFine, sizeOf, putSequence};
+ghost use Rattle.sequence_spelling.specs.SequenceOctets.{isFine};
+ghost use Rattle.sequence_spelling.specs.Promises.{SequenceSizePromise, PutSequencePromise};
 
 // Whether these can be a sequence. 01: an intermediate of 20 to 2F or none, a final of 40 to 7E, "at most 8 values, each at most 999", and
 // "always one value at least".
@@ -69,7 +70,7 @@ fn values_size(values: &[u32]) -> usize
 
 // How many octets a sequence is spelt with; 0 where these cannot be one.
 pub fn sequence_size(middle: u8, last: u8, values: &[u32]) -> usize
-    ensures { λ r. ⌜ r ≡ sizeOf (record { middle = middle; last = last; values = now (values .entry) }) ⌝ }
+    ensures { λ r. ⌜ SequenceSizePromise middle last (now (values .entry)) r ⌝ }
 {
     if !is_fine(middle, last, values) {
         return 0;
@@ -141,7 +142,7 @@ fn put_whole(middle: u8, last: u8, values: &[u32], out: &mut [u8], at: usize) ->
     ensures { λ r. ⌜ Put (now (out .entry)) at
         (spellSequence (record { middle = middle; last = last; values = now (values .entry) })) (now (out .exit)) r ⌝ }
 {
-    let a = run::put(out, at, 0x9B);
+    let a = run::put(out, at, sorts::CSI);
     let b = put_value(out, a, values[0]);
     let c = put_rest(out, b, values);
     let d = put_middle(out, c, middle);
@@ -151,8 +152,7 @@ fn put_whole(middle: u8, last: u8, values: &[u32], out: &mut [u8], at: usize) ->
 // Spells the sequence at `at` of `out` and answers the place after it; where these cannot be a sequence or the room is short, it does
 // nothing and answers `at`.
 pub fn put_sequence(middle: u8, last: u8, values: &[u32], out: &mut [u8], at: usize) -> usize
-    ensures { λ r. ⌜ Put (now (out .entry)) at
-        (putSequence (now (out .entry)) at (record { middle = middle; last = last; values = now (values .entry) })) (now (out .exit)) r ⌝ }
+    ensures { λ r. ⌜ PutSequencePromise middle last (now (values .entry)) (now (out .entry)) at r (now (out .exit)) ⌝ }
 {
     let size = sequence_size(middle, last, values);
     if size == 0 {

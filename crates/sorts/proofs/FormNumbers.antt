@@ -16,7 +16,7 @@ use Rattle.sorts.specs.declared.FormFound.{FormFound}
 use Rattle.sorts.specs.declared.FormFound.the-variants.{Is, Nothing}
 use Rattle.sorts.specs.Forms.{numberOf, formIn, forms, formOf, lastForm, IsForm, NoForm, formNumber}
 
-nothing-is : {f : Form} → Nothing ≡ Is f → ⊥
+pub nothing-is : {f : Form} → Nothing ≡ Is f → ⊥
 nothing-is e = let z : _≡_ {A = ℕ} 0 1 = cc in omega arith
 
 -- ---- the tests

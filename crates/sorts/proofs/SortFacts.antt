@@ -12,8 +12,8 @@ use Rattle.sorts.specs.declared.Form.the-variants.{Eight, Seven, Basic}
 use Rattle.sorts.specs.declared.Sort.{Sort}
 use Rattle.sorts.specs.declared.Sort.the-variants.{Graphic, Mark, Underline, Shift, Control, SequenceStart, Refused}
 use Rattle.sorts.specs.Cells.{meaning}
-use Rattle.sorts.specs.Forms.{Alphabet, alphabetOf, SS2}
-use Rattle.sorts.specs.Sorts.{sortBy, shiftedBy, sortIn, shiftedIn, sortNumber}
+use Rattle.sorts.specs.Forms.{Alphabet, alphabetOf, SS2, CC, CSI}
+use Rattle.sorts.specs.Sorts.{sortBy, shiftedBy, sortIn, shiftedIn, sortNumber, AfterShift}
 use Rattle.sorts.proofs.Tests.{Alike, AllBelow, below}
 use Rattle.sorts.proofs.Sorted.{sort-says, shifted-says}
 
@@ -37,8 +37,8 @@ underlineTold a o = (o, noShift (sortBy a SS2))
 record Tested (a : Alphabet) : Type 0 where
   pub spaces : sortBy a 0x20 ≡ Graphic 0x20
   pub shift : Alike (shiftTold a) (λ o. (SS2, Graphic 0xA1)) (a .shifts)
-  pub underline : Alike (underlineTold a) (λ o. (0xCC, true)) (a .underlines)
-  pub sequence : Alike (λ o. o) (λ o. 0x9B) (a .sequences)
+  pub underline : Alike (underlineTold a) (λ o. (CC, true)) (a .underlines)
+  pub sequence : Alike (λ o. o) (λ o. CSI) (a .sequences)
   pub control : AllBelow 0x100 (λ o. o) (a .controls)
   pub mark : AllBelow 0x100 meaning (a .marks)
   pub graphic : AllBelow 0x8000 meaning (a .graphics)
@@ -60,7 +60,7 @@ space-sorts f = tested f .spaces
 
 -- ---- SS2, the underline octet, the sequence start
 
--- only 19 is SS2, and something may follow it
+-- only SS2 shifts, and something may follow it
 pub shift-is : (f : Form) (o : ℕ) → sortIn f o ≡ Shift → (o ≡ SS2) × (shiftedIn f 0x21 ≡ Graphic 0xA1)
 unfolding shiftedIn
 shift-is f o e =
@@ -70,17 +70,17 @@ shift-is f o e =
 is-shift : (s : Sort) → noShift s ≡ true → s ≡ Shift → ⊥
 is-shift s h e = let w : noShift s ≡ false = ap noShift e in let z : _≡_ {A = ℕ} 0 1 = cc in omega arith
 
--- only CC is the underline octet, and a form that has it has no SS2
-pub underline-is : (f : Form) (o : ℕ) → sortIn f o ≡ Underline → (o ≡ 0xCC) × (sortIn f SS2 ≡ Shift → ⊥)
+-- only CC underlines, and a form that has it has no SS2
+pub underline-is : (f : Form) (o : ℕ) → sortIn f o ≡ Underline → (o ≡ CC) × (sortIn f SS2 ≡ Shift → ⊥)
 unfolding sortIn
 underline-is f o e =
     let m = sort-says f o Underline e in
-    let h = at-member {B = ℕ × Bool} (underlineTold (alphabetOf f)) (λ o. (0xCC, true)) m (tested f .underline) in
+    let h = at-member {B = ℕ × Bool} (underlineTold (alphabetOf f)) (λ o. (CC, true)) m (tested f .underline) in
     (ap (λ (p : ℕ × Bool). p .0) h, is-shift (sortBy (alphabetOf f) SS2) (ap (λ (p : ℕ × Bool). p .1) h))
 
--- only 9B begins a control sequence
-pub sequence-is : (f : Form) (o : ℕ) → sortIn f o ≡ SequenceStart → o ≡ 0x9B
-sequence-is f o e = at-member (λ o. o) (λ o. 0x9B) (sort-says f o SequenceStart e) (tested f .sequence)
+-- only CSI begins a control sequence
+pub sequence-is : (f : Form) (o : ℕ) → sortIn f o ≡ SequenceStart → o ≡ CSI
+sequence-is f o e = at-member (λ o. o) (λ o. CSI) (sort-says f o SequenceStart e) (tested f .sequence)
 
 -- ---- bounds
 
@@ -103,15 +103,6 @@ shifted-graphic-small f o c e = below 0x10000 meaning (shifted-says f o (Graphic
 -- an octet that begins nothing is refused with 1, 2 or 5; after SS2 with 1 or 5, and else it is a graphic or a mark
 pub refused-numbers : (f : Form) (o n : ℕ) → sortIn f o ≡ Refused n → (n ≡ 1) ⊎ ((n ≡ 2) ⊎ (n ≡ 5))
 refused-numbers f o n e = sort-says f o (Refused n) e
-
-abbrev pub AfterShift : Sort → Type 0
-AfterShift (Graphic c) = Unit {0}
-AfterShift (Mark m) = Unit {0}
-AfterShift Underline = ⊥
-AfterShift Shift = ⊥
-AfterShift Control = ⊥
-AfterShift SequenceStart = ⊥
-AfterShift (Refused n) = (n ≡ 1) ⊎ (n ≡ 5)
 
 pub after-shift : (f : Form) (o : ℕ) (s : Sort) → shiftedIn f o ≡ s → AfterShift s
 after-shift f o (Graphic c) e = tt

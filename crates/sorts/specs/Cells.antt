@@ -1,4 +1,4 @@
--- To be believed: a table of document 01, what stands before what, in order. Looked up from either side.
+-- To be believed: a table of document 01, what stands before what, in order. Looked up from either side. Last, a part of the code.
 -- Assumes nothing.
 use Prim.Native.Nat.{ℕ, _-_}
 use mathlib.Core.List.{List, [], _∷_}
@@ -23,14 +23,14 @@ meaning (o is c) = c
 abbrev pub charIn : List Cell → ℕ → Found
 charIn = firstBy octet (λ cell. Char (meaning cell)) Nothing
 
--- what is found, as an entry of a table in the code: 0 where there is none
-abbrev pub number : Found → ℕ
-number (Char c) = c
-number Nothing = 0
-
 -- the first octet that is c
 abbrev pub octetIn : List Cell → ℕ → Octet
 octetIn = firstBy meaning (λ cell. Is (octet cell)) Absent
+
+-- 01's values of each answer to that: the octet, where there is one. It has no number for either: nothing is refused by it
+abbrev pub octetValues : Octet → List ℕ
+octetValues (Is o) = o ∷ []
+octetValues Absent = []
 
 -- the cells but those of some octets
 abbrev pub without : List ℕ → List Cell → List Cell
@@ -46,3 +46,10 @@ part a b (o is c ∷ cs) = let more = part a b cs in pick (within a b o) (o is c
 abbrev pub low : List Cell → List Cell
 low [] = []
 low (o is c ∷ cs) = (o - 0x80) is c ∷ low cs
+
+-- ---- part of the code
+
+-- what is found, as an entry of a table in the code: 0 where there is none
+abbrev pub number : Found → ℕ
+number (Char c) = c
+number Nothing = 0

@@ -50,9 +50,17 @@ abbrev pub inForm : {A : Type 0} → FormFound → A → (Form → A) → A
 inForm (Is f) x k = k f
 inForm Nothing x k = x
 
--- single shift two, "SS2 (19)"
+-- "SS2 (19)", single shift two
 abbrev pub SS2 : ℕ
 SS2 = 0x19
+
+-- the underline octet: "CC stands before a spacing character, or before a mark with its follower"
+abbrev pub CC : ℕ
+CC = 0xCC
+
+-- what begins a control sequence: "Control sequence, form 3: 9B"
+abbrev pub CSI : ℕ
+CSI = 0x9B
 
 pub record Alphabet : Type 0 where
   pub bits : ℕ  -- 7 or 8
@@ -70,7 +78,7 @@ pub record Alphabet : Type 0 where
 -- each mark's own octet
 abbrev pub own : List Row → List Cell
 own [] = []
-own (row m cs ∷ rs) = m is m ∷ own rs
+own (row m k cs ∷ rs) = m is m ∷ own rs
 
 unfoldable pub form1 : Alphabet
 unfolding letters primary supplementary
@@ -80,7 +88,7 @@ form1 = record {
   shifts = [];
   sequences = [];
   underlines = [];
-  escapes = 0x0E ∷ 0x0F ∷ 0x1B ∷ 0x1D ∷ 0x19 ∷ [];
+  escapes = 0x0E ∷ 0x0F ∷ 0x1B ∷ 0x1D ∷ SS2 ∷ [];
   marks = own letters;
   graphics = primary ++ supplementary;
   shiftedMarks = [];
@@ -110,9 +118,9 @@ form3 = record {
   bits = 8;
   controls = 0x08 ∷ 0x0A ∷ 0x0C ∷ 0x0D ∷ 0x1A ∷ 0x8B ∷ 0x8C ∷ [];
   shifts = [];
-  sequences = 0x9B ∷ [];
-  underlines = 0xCC ∷ [];
-  escapes = 0x0E ∷ 0x0F ∷ 0x1B ∷ 0x1D ∷ 0x19 ∷ [];
+  sequences = CSI ∷ [];
+  underlines = CC ∷ [];
+  escapes = 0x0E ∷ 0x0F ∷ 0x1B ∷ 0x1D ∷ SS2 ∷ [];
   marks = own letters;
   graphics = primary-3 ++ supplementary-3;
   shiftedMarks = [];

@@ -1,6 +1,7 @@
 -- To be believed: the alphabets of document 01, in its order and its words. An octet or a follower stands before its character.
 -- Assumes nothing.
 use Prim.Native.Nat.{ℕ, zero, suc}
+use Prim.Native.Char.{Char, code}
 use mathlib.Core.List.{List, [], _∷_, _++_, map}
 use Rattle.sorts.specs.Cells.{Cell, _is_, without, part}
 
@@ -56,100 +57,121 @@ supplementary-3 =
 -- ---- marks: "written before the letter, with the combining character in brackets". Each letter stands with "the one Unicode character
 -- whose canonical decomposition, taken one step, is that letter and combining character".
 
--- C1 grave (0300) AEIOU aeiou
-unfoldable pub grave : List Cell
-grave =
-    0x41 is 0x00C0 ∷ 0x45 is 0x00C8 ∷ 0x49 is 0x00CC ∷ 0x4F is 0x00D2 ∷ 0x55 is 0x00D9 ∷ 0x61 is 0x00E0 ∷ 0x65 is 0x00E8 ∷ 0x69 is 0x00EC ∷
-    0x6F is 0x00F2 ∷ 0x75 is 0x00F9 ∷ []
-
--- C2 acute (0301) ACEILNORSUYZ aceilnorsuyz
-unfoldable pub acute : List Cell
-acute =
-    0x41 is 0x00C1 ∷ 0x43 is 0x0106 ∷ 0x45 is 0x00C9 ∷ 0x49 is 0x00CD ∷ 0x4C is 0x0139 ∷ 0x4E is 0x0143 ∷ 0x4F is 0x00D3 ∷ 0x52 is 0x0154 ∷
-    0x53 is 0x015A ∷ 0x55 is 0x00DA ∷ 0x59 is 0x00DD ∷ 0x5A is 0x0179 ∷ 0x61 is 0x00E1 ∷ 0x63 is 0x0107 ∷ 0x65 is 0x00E9 ∷ 0x69 is 0x00ED ∷
-    0x6C is 0x013A ∷ 0x6E is 0x0144 ∷ 0x6F is 0x00F3 ∷ 0x72 is 0x0155 ∷ 0x73 is 0x015B ∷ 0x75 is 0x00FA ∷ 0x79 is 0x00FD ∷
-    0x7A is 0x017A ∷ []
-
--- C3 circumflex (0302) ACEGHIJOSUWY aceghijosuwy
-unfoldable pub circumflex : List Cell
-circumflex =
-    0x41 is 0x00C2 ∷ 0x43 is 0x0108 ∷ 0x45 is 0x00CA ∷ 0x47 is 0x011C ∷ 0x48 is 0x0124 ∷ 0x49 is 0x00CE ∷ 0x4A is 0x0134 ∷ 0x4F is 0x00D4 ∷
-    0x53 is 0x015C ∷ 0x55 is 0x00DB ∷ 0x57 is 0x0174 ∷ 0x59 is 0x0176 ∷ 0x61 is 0x00E2 ∷ 0x63 is 0x0109 ∷ 0x65 is 0x00EA ∷ 0x67 is 0x011D ∷
-    0x68 is 0x0125 ∷ 0x69 is 0x00EE ∷ 0x6A is 0x0135 ∷ 0x6F is 0x00F4 ∷ 0x73 is 0x015D ∷ 0x75 is 0x00FB ∷ 0x77 is 0x0175 ∷
-    0x79 is 0x0177 ∷ []
-
--- C4 tilde (0303) AINOU ainou
-unfoldable pub tilde : List Cell
-tilde =
-    0x41 is 0x00C3 ∷ 0x49 is 0x0128 ∷ 0x4E is 0x00D1 ∷ 0x4F is 0x00D5 ∷ 0x55 is 0x0168 ∷ 0x61 is 0x00E3 ∷ 0x69 is 0x0129 ∷ 0x6E is 0x00F1 ∷
-    0x6F is 0x00F5 ∷ 0x75 is 0x0169 ∷ []
-
--- C5 macron (0304) AEIOU aeiou
-unfoldable pub macron : List Cell
-macron =
-    0x41 is 0x0100 ∷ 0x45 is 0x0112 ∷ 0x49 is 0x012A ∷ 0x4F is 0x014C ∷ 0x55 is 0x016A ∷ 0x61 is 0x0101 ∷ 0x65 is 0x0113 ∷ 0x69 is 0x012B ∷
-    0x6F is 0x014D ∷ 0x75 is 0x016B ∷ []
-
--- C6 breve (0306) AGU agu
-unfoldable pub breve : List Cell
-breve =
-    0x41 is 0x0102 ∷ 0x47 is 0x011E ∷ 0x55 is 0x016C ∷ 0x61 is 0x0103 ∷ 0x67 is 0x011F ∷ 0x75 is 0x016D ∷ []
-
--- C7 dot above (0307) CEGIZ cegz
-unfoldable pub dot-above : List Cell
-dot-above =
-    0x43 is 0x010A ∷ 0x45 is 0x0116 ∷ 0x47 is 0x0120 ∷ 0x49 is 0x0130 ∷ 0x5A is 0x017B ∷ 0x63 is 0x010B ∷ 0x65 is 0x0117 ∷ 0x67 is 0x0121 ∷
-    0x7A is 0x017C ∷ []
-
--- C8 diaeresis (0308) AEIOUY aeiouy
-unfoldable pub diaeresis : List Cell
-diaeresis =
-    0x41 is 0x00C4 ∷ 0x45 is 0x00CB ∷ 0x49 is 0x00CF ∷ 0x4F is 0x00D6 ∷ 0x55 is 0x00DC ∷ 0x59 is 0x0178 ∷ 0x61 is 0x00E4 ∷ 0x65 is 0x00EB ∷
-    0x69 is 0x00EF ∷ 0x6F is 0x00F6 ∷ 0x75 is 0x00FC ∷ 0x79 is 0x00FF ∷ []
-
--- CA ring (030A) AU au
-unfoldable pub ring : List Cell
-ring =
-    0x41 is 0x00C5 ∷ 0x55 is 0x016E ∷ 0x61 is 0x00E5 ∷ 0x75 is 0x016F ∷ []
-
--- CB cedilla (0327) CGKLNRST cklnrst
-unfoldable pub cedilla : List Cell
-cedilla =
-    0x43 is 0x00C7 ∷ 0x47 is 0x0122 ∷ 0x4B is 0x0136 ∷ 0x4C is 0x013B ∷ 0x4E is 0x0145 ∷ 0x52 is 0x0156 ∷ 0x53 is 0x015E ∷ 0x54 is 0x0162 ∷
-    0x63 is 0x00E7 ∷ 0x6B is 0x0137 ∷ 0x6C is 0x013C ∷ 0x6E is 0x0146 ∷ 0x72 is 0x0157 ∷ 0x73 is 0x015F ∷ 0x74 is 0x0163 ∷ []
-
--- CD double acute (030B) OU ou
-unfoldable pub double-acute : List Cell
-double-acute =
-    0x4F is 0x0150 ∷ 0x55 is 0x0170 ∷ 0x6F is 0x0151 ∷ 0x75 is 0x0171 ∷ []
-
--- CE ogonek (0328) AEIU aeiu
-unfoldable pub ogonek : List Cell
-ogonek =
-    0x41 is 0x0104 ∷ 0x45 is 0x0118 ∷ 0x49 is 0x012E ∷ 0x55 is 0x0172 ∷ 0x61 is 0x0105 ∷ 0x65 is 0x0119 ∷ 0x69 is 0x012F ∷
-    0x75 is 0x0173 ∷ []
-
--- CF caron (030C) CDELNRSTZ cdelnrstz
-unfoldable pub caron : List Cell
-caron =
-    0x43 is 0x010C ∷ 0x44 is 0x010E ∷ 0x45 is 0x011A ∷ 0x4C is 0x013D ∷ 0x4E is 0x0147 ∷ 0x52 is 0x0158 ∷ 0x53 is 0x0160 ∷ 0x54 is 0x0164 ∷
-    0x5A is 0x017D ∷ 0x63 is 0x010D ∷ 0x64 is 0x010F ∷ 0x65 is 0x011B ∷ 0x6C is 0x013E ∷ 0x6E is 0x0148 ∷ 0x72 is 0x0159 ∷ 0x73 is 0x0161 ∷
-    0x74 is 0x0165 ∷ 0x7A is 0x017E ∷ []
-
--- a mark, and its followers with their characters
+-- a mark's octet, its combining character, and its followers with their characters
 pub data Row : Type 0 where
-  row : ℕ → List Cell → Row
+  row : ℕ → ℕ → List Cell → Row
+
+infix 70 _gives_
+-- a letter, as its octet, and the character that the row's mark makes of it
+abbrev pub _gives_ : Char → ℕ → Cell
+l gives c = code l is c
+
+-- C1 grave (0300) AEIOU aeiou: À È Ì Ò Ù, à è ì ò ù
+unfoldable pub grave : Row
+grave =
+    row 0xC1 0x0300
+    ("A" gives 0x00C0 ∷ "E" gives 0x00C8 ∷ "I" gives 0x00CC ∷ "O" gives 0x00D2 ∷ "U" gives 0x00D9 ∷
+    "a" gives 0x00E0 ∷ "e" gives 0x00E8 ∷ "i" gives 0x00EC ∷ "o" gives 0x00F2 ∷ "u" gives 0x00F9 ∷ [])
+
+-- C2 acute (0301) ACEILNORSUYZ aceilnorsuyz: Á Ć É Í Ĺ Ń Ó Ŕ Ś Ú Ý Ź, á ć é í ĺ ń ó ŕ ś ú ý ź
+unfoldable pub acute : Row
+acute =
+    row 0xC2 0x0301
+    ("A" gives 0x00C1 ∷ "C" gives 0x0106 ∷ "E" gives 0x00C9 ∷ "I" gives 0x00CD ∷ "L" gives 0x0139 ∷ "N" gives 0x0143 ∷
+    "O" gives 0x00D3 ∷ "R" gives 0x0154 ∷ "S" gives 0x015A ∷ "U" gives 0x00DA ∷ "Y" gives 0x00DD ∷ "Z" gives 0x0179 ∷
+    "a" gives 0x00E1 ∷ "c" gives 0x0107 ∷ "e" gives 0x00E9 ∷ "i" gives 0x00ED ∷ "l" gives 0x013A ∷ "n" gives 0x0144 ∷
+    "o" gives 0x00F3 ∷ "r" gives 0x0155 ∷ "s" gives 0x015B ∷ "u" gives 0x00FA ∷ "y" gives 0x00FD ∷ "z" gives 0x017A ∷ [])
+
+-- C3 circumflex (0302) ACEGHIJOSUWY aceghijosuwy: Â Ĉ Ê Ĝ Ĥ Î Ĵ Ô Ŝ Û Ŵ Ŷ, â ĉ ê ĝ ĥ î ĵ ô ŝ û ŵ ŷ
+unfoldable pub circumflex : Row
+circumflex =
+    row 0xC3 0x0302
+    ("A" gives 0x00C2 ∷ "C" gives 0x0108 ∷ "E" gives 0x00CA ∷ "G" gives 0x011C ∷ "H" gives 0x0124 ∷ "I" gives 0x00CE ∷
+    "J" gives 0x0134 ∷ "O" gives 0x00D4 ∷ "S" gives 0x015C ∷ "U" gives 0x00DB ∷ "W" gives 0x0174 ∷ "Y" gives 0x0176 ∷
+    "a" gives 0x00E2 ∷ "c" gives 0x0109 ∷ "e" gives 0x00EA ∷ "g" gives 0x011D ∷ "h" gives 0x0125 ∷ "i" gives 0x00EE ∷
+    "j" gives 0x0135 ∷ "o" gives 0x00F4 ∷ "s" gives 0x015D ∷ "u" gives 0x00FB ∷ "w" gives 0x0175 ∷ "y" gives 0x0177 ∷ [])
+
+-- C4 tilde (0303) AINOU ainou: Ã Ĩ Ñ Õ Ũ, ã ĩ ñ õ ũ
+unfoldable pub tilde : Row
+tilde =
+    row 0xC4 0x0303
+    ("A" gives 0x00C3 ∷ "I" gives 0x0128 ∷ "N" gives 0x00D1 ∷ "O" gives 0x00D5 ∷ "U" gives 0x0168 ∷
+    "a" gives 0x00E3 ∷ "i" gives 0x0129 ∷ "n" gives 0x00F1 ∷ "o" gives 0x00F5 ∷ "u" gives 0x0169 ∷ [])
+
+-- C5 macron (0304) AEIOU aeiou: Ā Ē Ī Ō Ū, ā ē ī ō ū
+unfoldable pub macron : Row
+macron =
+    row 0xC5 0x0304
+    ("A" gives 0x0100 ∷ "E" gives 0x0112 ∷ "I" gives 0x012A ∷ "O" gives 0x014C ∷ "U" gives 0x016A ∷
+    "a" gives 0x0101 ∷ "e" gives 0x0113 ∷ "i" gives 0x012B ∷ "o" gives 0x014D ∷ "u" gives 0x016B ∷ [])
+
+-- C6 breve (0306) AGU agu: Ă Ğ Ŭ, ă ğ ŭ
+unfoldable pub breve : Row
+breve =
+    row 0xC6 0x0306
+    ("A" gives 0x0102 ∷ "G" gives 0x011E ∷ "U" gives 0x016C ∷
+    "a" gives 0x0103 ∷ "g" gives 0x011F ∷ "u" gives 0x016D ∷ [])
+
+-- C7 dot above (0307) CEGIZ cegz: Ċ Ė Ġ İ Ż, ċ ė ġ ż
+unfoldable pub dot-above : Row
+dot-above =
+    row 0xC7 0x0307
+    ("C" gives 0x010A ∷ "E" gives 0x0116 ∷ "G" gives 0x0120 ∷ "I" gives 0x0130 ∷ "Z" gives 0x017B ∷
+    "c" gives 0x010B ∷ "e" gives 0x0117 ∷ "g" gives 0x0121 ∷ "z" gives 0x017C ∷ [])
+
+-- C8 diaeresis (0308) AEIOUY aeiouy: Ä Ë Ï Ö Ü Ÿ, ä ë ï ö ü ÿ
+unfoldable pub diaeresis : Row
+diaeresis =
+    row 0xC8 0x0308
+    ("A" gives 0x00C4 ∷ "E" gives 0x00CB ∷ "I" gives 0x00CF ∷ "O" gives 0x00D6 ∷ "U" gives 0x00DC ∷ "Y" gives 0x0178 ∷
+    "a" gives 0x00E4 ∷ "e" gives 0x00EB ∷ "i" gives 0x00EF ∷ "o" gives 0x00F6 ∷ "u" gives 0x00FC ∷ "y" gives 0x00FF ∷ [])
+
+-- CA ring (030A) AU au: Å Ů, å ů
+unfoldable pub ring : Row
+ring =
+    row 0xCA 0x030A
+    ("A" gives 0x00C5 ∷ "U" gives 0x016E ∷
+    "a" gives 0x00E5 ∷ "u" gives 0x016F ∷ [])
+
+-- CB cedilla (0327) CGKLNRST cklnrst: Ç Ģ Ķ Ļ Ņ Ŗ Ş Ţ, ç ķ ļ ņ ŗ ş ţ
+unfoldable pub cedilla : Row
+cedilla =
+    row 0xCB 0x0327
+    ("C" gives 0x00C7 ∷ "G" gives 0x0122 ∷ "K" gives 0x0136 ∷ "L" gives 0x013B ∷ "N" gives 0x0145 ∷ "R" gives 0x0156 ∷
+    "S" gives 0x015E ∷ "T" gives 0x0162 ∷
+    "c" gives 0x00E7 ∷ "k" gives 0x0137 ∷ "l" gives 0x013C ∷ "n" gives 0x0146 ∷ "r" gives 0x0157 ∷ "s" gives 0x015F ∷
+    "t" gives 0x0163 ∷ [])
+
+-- CD double acute (030B) OU ou: Ő Ű, ő ű
+unfoldable pub double-acute : Row
+double-acute =
+    row 0xCD 0x030B
+    ("O" gives 0x0150 ∷ "U" gives 0x0170 ∷
+    "o" gives 0x0151 ∷ "u" gives 0x0171 ∷ [])
+
+-- CE ogonek (0328) AEIU aeiu: Ą Ę Į Ų, ą ę į ų
+unfoldable pub ogonek : Row
+ogonek =
+    row 0xCE 0x0328
+    ("A" gives 0x0104 ∷ "E" gives 0x0118 ∷ "I" gives 0x012E ∷ "U" gives 0x0172 ∷
+    "a" gives 0x0105 ∷ "e" gives 0x0119 ∷ "i" gives 0x012F ∷ "u" gives 0x0173 ∷ [])
+
+-- CF caron (030C) CDELNRSTZ cdelnrstz: Č Ď Ě Ľ Ň Ř Š Ť Ž, č ď ě ľ ň ř š ť ž
+unfoldable pub caron : Row
+caron =
+    row 0xCF 0x030C
+    ("C" gives 0x010C ∷ "D" gives 0x010E ∷ "E" gives 0x011A ∷ "L" gives 0x013D ∷ "N" gives 0x0147 ∷ "R" gives 0x0158 ∷
+    "S" gives 0x0160 ∷ "T" gives 0x0164 ∷ "Z" gives 0x017D ∷
+    "c" gives 0x010D ∷ "d" gives 0x010F ∷ "e" gives 0x011B ∷ "l" gives 0x013E ∷ "n" gives 0x0148 ∷ "r" gives 0x0159 ∷
+    "s" gives 0x0161 ∷ "t" gives 0x0165 ∷ "z" gives 0x017E ∷ [])
 
 -- the marks with their letters: 154 pairs
 unfoldable pub letters : List Row
 unfolding grave acute circumflex tilde macron breve dot-above diaeresis ring cedilla double-acute ogonek caron
 letters =
-    row 0xC1 grave ∷ row 0xC2 acute ∷ row 0xC3 circumflex ∷ row 0xC4 tilde ∷
-    row 0xC5 macron ∷ row 0xC6 breve ∷ row 0xC7 dot-above ∷ row 0xC8 diaeresis ∷
-    row 0xCA ring ∷ row 0xCB cedilla ∷ row 0xCD double-acute ∷ row 0xCE ogonek ∷
-    row 0xCF caron ∷ []
+    grave ∷ acute ∷ circumflex ∷ tilde ∷ macron ∷ breve ∷ dot-above ∷ diaeresis ∷ ring ∷ cedilla ∷ double-acute ∷ ogonek ∷ caron ∷ []
 
--- "A mark and SPACE is the free-standing accent, in the order above"
+-- "A mark and SPACE is the free-standing accent, in the order above": ` ´ ^ ~ ¯ ˘ ˙ ¨ ˚ ¸ ˝ ˛ ˇ
 unfoldable pub accents : List ℕ
 accents = 0x0060 ∷ 0x00B4 ∷ 0x005E ∷ 0x007E ∷ 0x00AF ∷ 0x02D8 ∷ 0x02D9 ∷ 0x00A8 ∷ 0x02DA ∷ 0x00B8 ∷ 0x02DD ∷ 0x02DB ∷ 0x02C7 ∷ []
 
@@ -157,7 +179,7 @@ accents = 0x0060 ∷ 0x00B4 ∷ 0x005E ∷ 0x007E ∷ 0x00AF ∷ 0x02D8 ∷ 0x02
 abbrev pub withAccents : List Row → List ℕ → List Row
 withAccents [] ns = []
 withAccents (r ∷ rs) [] = r ∷ rs
-withAccents (row m cs ∷ rs) (n ∷ ns) = row m (cs ++ (0x20 is n ∷ [])) ∷ withAccents rs ns
+withAccents (row m k cs ∷ rs) (n ∷ ns) = row m k (cs ++ (0x20 is n ∷ [])) ∷ withAccents rs ns
 
 -- the filled squares, 167, row by row
 unfoldable pub rows : List Row

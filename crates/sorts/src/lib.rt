@@ -2,9 +2,7 @@
 mod supplementary;
 
 ghost use mathlib.Core.Path.{_≡_};
-ghost use Rattle.sorts.specs.Cells.{octetIn};
-ghost use Rattle.sorts.specs.Tables.{supplementary};
-ghost use Rattle.sorts.specs.Forms.{formOf};
+ghost use Rattle.sorts.specs.Promises.{FormOfPromise, WidePromise, SortInPromise, SortShiftedPromise, FindSpacingPromise};
 ghost use Rattle.sorts.specs.Sorts.{sortIn, shiftedIn, entry, upperAt, spacingOf};
 
 // The forms of text: T51String in eight bits and in seven, basic T.61.
@@ -13,6 +11,14 @@ pub enum Form {
     Seven,
     Basic,
 }
+
+// Octets that an element may begin with and that those who read and spell one know by name: SS2, the underline, what begins a control
+// sequence.
+pub const SS2: u8 = 0x19;
+
+pub const CC: u8 = 0xCC;
+
+pub const CSI: u8 = 0x9B;
 
 // The form of a number.
 pub enum FormFound {
@@ -47,9 +53,9 @@ pub enum Octet {
     Absent,
 }
 
-// 01: "11: form not 1 to 3".
+// 01: 11, "form not 1 to 3".
 pub fn form_of(number: u32) -> FormFound
-    ensures { λ r. ⌜ r ≡ formOf number ⌝ }
+    ensures { λ r. ⌜ FormOfPromise number r ⌝ }
 {
     match number {
         1 => FormFound::Is(Form::Eight),
@@ -61,7 +67,7 @@ pub fn form_of(number: u32) -> FormFound
 
 // An entry of a table as a character. Tables hold sixteen bits, as a look-up in a constant copies the whole of it.
 pub fn wide(x: u16) -> u32
-    ensures { λ r. ⌜ r ≡ x ⌝ }
+    ensures { λ r. ⌜ WidePromise x r ⌝ }
 {
     x as u32
 }
@@ -155,7 +161,7 @@ fn sort_basic(octet: u8) -> Sort
 
 // What an octet begins in a form.
 pub fn sort_in(form: Form, octet: u8) -> Sort
-    ensures { λ r. ⌜ r ≡ sortIn form octet ⌝ }
+    ensures { λ r. ⌜ SortInPromise form octet r ⌝ }
 {
     match form {
         Form::Eight => sort_eight(octet),
@@ -180,7 +186,7 @@ fn shifted_seven(octet: u8) -> Sort
 
 // What the octet after SS2 is in a form: nothing in one that has no SS2.
 pub fn sort_shifted(form: Form, octet: u8) -> Sort
-    ensures { λ r. ⌜ r ≡ shiftedIn form octet ⌝ }
+    ensures { λ r. ⌜ SortShiftedPromise form octet r ⌝ }
 {
     match form {
         Form::Eight => Sort::Refused(1),
@@ -191,7 +197,7 @@ pub fn sort_shifted(form: Form, octet: u8) -> Sort
 
 // The supplementary octet of a character, looked for octet by octet.
 pub fn find_spacing(c: u32) -> Octet
-    ensures { λ r. ⌜ r ≡ octetIn supplementary c ⌝ }
+    ensures { λ r. ⌜ FindSpacingPromise c r ⌝ }
 {
     if c == 0 {
         return Octet::Absent;

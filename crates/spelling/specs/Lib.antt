@@ -1,2 +1,3 @@
 pub mod CanonicalSpelling
 pub mod SpellingGiven
+pub mod Promises

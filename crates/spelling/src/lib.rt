@@ -3,7 +3,8 @@ use sorts::Form;
 use sorts::Octet;
 use squares::Pairing;
 ghost use mathlib.Core.Path.{_≡_};
-ghost use Rattle.spelling.specs.SpellingGiven.{spellIn, itself, primaryOctet, spellSpacing, spellPair};
+ghost use Rattle.spelling.specs.SpellingGiven.{itself, primaryOctet, spellSpacing, spellPair};
+ghost use Rattle.spelling.specs.Promises.{SpellInPromise};
 
 // The canonical spelling of a character.
 pub enum Spelling {
@@ -56,12 +57,13 @@ fn primary_octet(form: Form, c: u32) -> Octet
     }
 }
 
-// 01: form 3 has "A1 to A8, AB, B0 to B8, BB to BF, E0 to E4, E6 to FE".
+// 01: form 3 has "A1 to A8, AB, B0 to B8, BB to BF, E0 to E4, E6 to FE", and writes the currency sign A8.
 fn spacing_basic(octet: u8) -> Spelling
     ensures { λ r. ⌜ r ≡ spellSpacing Form.Basic octet ⌝ }
 {
     match octet {
-        0xA1..=0xA8 | 0xAB | 0xB0..=0xB8 | 0xBB..=0xBF | 0xE0..=0xE4 | 0xE6..=0xFE => Spelling::One(
+        0xA8 => Spelling::One(0xA8),
+        0xA1..=0xA7 | 0xAB | 0xB0..=0xB8 | 0xBB..=0xBF | 0xE0..=0xE4 | 0xE6..=0xFE => Spelling::One(
             octet,
         ),
         _ => Spelling::Unspelt,
@@ -92,7 +94,7 @@ fn spell_pair(form: Form, mark: u8, follower: u8) -> Spelling
 
 // The canonical spelling of a character in a form: "One octet where the form has one, else the pair."
 pub fn spell_in(form: Form, c: u32) -> Spelling
-    ensures { λ r. ⌜ r ≡ spellIn form c ⌝ }
+    ensures { λ r. ⌜ SpellInPromise form c r ⌝ }
 {
     let primary = primary_octet(form, c);
     if let Octet::Is(o) = primary {

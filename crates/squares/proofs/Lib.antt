@@ -1,5 +1,7 @@
+mod TableTest
 pub mod Pairs
 pub mod TableRule
 pub mod SquareFacts
 pub mod Counts
+pub mod NumbersExactly
 pub mod OneAnswer

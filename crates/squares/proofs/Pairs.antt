@@ -1,20 +1,20 @@
 -- The table read square by square is the definition's list of squares, so a search of the one is a search of the other; and a look-up in
 -- the table is a look-up in the rows.
 -- Assumes nothing.
-use Prim.Native.Nat.{ℕ, _+_, _/_, _%_, _<_}
+use Prim.Native.Nat.{ℕ, _+_, _<_}
 use mathlib.Core.Path.{_≡_, refl, sym, ap, _∙_}
 use mathlib.Core.List.{List}
 use lib.Dec.{eqb}
-use lib.ListN.{getD}
 use borrow.Author.Tests.{eq-eqb, ne-eqb, lt-leb}
 use Rattle.run.specs.Choice.{pick}
 use Rattle.run.proofs.Range.{listed, within²}
-use Rattle.run.proofs.Search.{filled as filled-entries, Left, goes-on, hits, at-end}
+use Rattle.run.proofs.Search.{Left, goes-on, hits, at-end}
 use Rattle.sorts.specs.declared.Found.{Found}
 use Rattle.sorts.specs.declared.Found.the-variants.{Char, Nothing}
 use Rattle.squares.specs.declared.Pairing.the-variants.{Nowhere}
-use Rattle.squares.specs.Squares.{Square, sq, character, pairing, squares, pairIn, pairOf, squareOf, rowOf, columnOf, pairAt, marks}
-use Rattle.squares.specs.Squares.{followers, squareTable, squareIn}
+use Rattle.squares.specs.Squares.{Square, character, pairing, pairIn, pairOf, squareOf, rowOf, columnOf, pairAt, squareTable}
+use Rattle.squares.specs.Squares.{squareIn}
+use Rattle.squares.proofs.TableTest.{placeEntry, squareAt, squares-filled}
 
 -- an entry of the table of the code
 abbrev pub entryAt : ℕ → ℕ → ℕ
@@ -49,18 +49,6 @@ module _ (m l r c x : ℕ) (er : r ≡ rowOf m) (ec : c ≡ columnOf l) (ex : x 
 
 -- ---- from a character to its pair
 
--- the entry at a place, counted row by row
-abbrev pub placeEntry : ℕ → ℕ
-placeEntry i = entryAt (i / 53) (i % 53)
-
-abbrev pub squareAt : ℕ → Square
-squareAt i = sq (getD marks (i / 53) 0) (getD followers (i % 53) 0) (placeEntry i)
-
--- the test: the table has the definition's squares, in its order
-pub squares-test : squares ≡ filled-entries character pairing Nowhere placeEntry squareAt (λ i. refl) 689 0 689
-unfolding squareTable marks followers squares
-squares-test = refl
-
 -- what the loop of `find_pair` keeps, and its ways out
 module _ (c : ℕ) where
   abbrev pub Left-pair : ℕ → Type 0
@@ -68,14 +56,14 @@ module _ (c : ℕ) where
 
   pub pair-start : Left-pair 0
   unfolding pairOf
-  pair-start = ap (λ (s : List Square). pairIn s c) squares-test
+  pair-start = ap (λ (s : List Square). pairIn s c) squares-filled
 
   pub pair-on : (i : ℕ) → i < 689 → Left-pair i → (placeEntry i ≡ c → ⊥) → Left-pair (i + 1)
   pair-on = goes-on character pairing Nowhere placeEntry squareAt (λ i. refl) 689 c (pairOf c)
 
-  pub pair-hit : (i : ℕ) → i < 689 → Left-pair i → (c ≡ 0 → ⊥) → placeEntry i ≡ c → pairAt i ≡ pairOf c
+  pub pair-here : (i : ℕ) → i < 689 → Left-pair i → (c ≡ 0 → ⊥) → placeEntry i ≡ c → pairAt i ≡ pairOf c
   unfolding pairAt
-  pair-hit i h l z e = rw (lt-leb 689 i h) (hits character pairing Nowhere placeEntry squareAt (λ i. refl) 689 c (pairOf c) i h l z e)
+  pair-here i h l z e = rw (lt-leb 689 i h) (hits character pairing Nowhere placeEntry squareAt (λ i. refl) 689 c (pairOf c) i h l z e)
 
   pub pair-end : (i : ℕ) → i ≡ 689 → Left-pair i → Nowhere ≡ pairOf c
   pair-end = at-end character pairing Nowhere placeEntry squareAt (λ i. refl) 689 c (pairOf c)

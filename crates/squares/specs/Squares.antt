@@ -1,10 +1,10 @@
 -- To be believed: the squares of 13 marks by 53 followers, the character of a mark and its follower, and the pair of a character; behind
 -- them, the table of 13 by 53 and its places, parts of the code.
 -- Assumes nothing.
-use Prim.Native.Nat.{ℕ, suc, _-_, _/_, _%_}
+use Prim.Native.Nat.{ℕ, suc, _+_, _-_, _/_, _%_}
 use mathlib.Core.List.{List, [], _∷_, _++_, map}
 use lib.Dec.{eqb, leb}
-use lib.ListN.{getD}
+use lib.ListN.{length, getD}
 use Rattle.run.specs.Choice.{pick, within, firstBy}
 use Rattle.sorts.specs.declared.Found.{Found}
 use Rattle.sorts.specs.declared.Found.the-variants.{Char, Nothing}
@@ -14,10 +14,18 @@ use Rattle.sorts.specs.Cells.{Cell, _is_, charIn, number}
 use Rattle.sorts.specs.Tables.{Row, row, rows, letters, consecutive}
 
 abbrev pub markOf : Row → ℕ
-markOf (row m cs) = m
+markOf (row m k cs) = m
+
+abbrev pub combiningOf : Row → ℕ
+combiningOf (row m k cs) = k
 
 abbrev pub cellsOf : Row → List Cell
-cellsOf (row m cs) = cs
+cellsOf (row m k cs) = cs
+
+-- how many cells some rows have
+abbrev pub cellCount : List Row → ℕ
+cellCount [] = 0
+cellCount (row m k cs ∷ rs) = length cs + cellCount rs
 
 -- the cells of a mark: none of an octet that is no mark
 abbrev pub cellsIn : List Row → ℕ → List Cell
@@ -33,6 +41,11 @@ abbrev pub foundNumber : Found → ℕ
 foundNumber (Char c) = 0
 foundNumber Nothing = 3
 
+-- and its values: the character, where there is one
+abbrev pub foundValues : Found → List ℕ
+foundValues (Char c) = c ∷ []
+foundValues Nothing = []
+
 -- a filled square: its mark, its follower, its character
 pub data Square : Type 0 where
   sq : ℕ → ℕ → ℕ → Square
@@ -43,7 +56,7 @@ inRow m (l is c ∷ cs) more = sq m l c ∷ inRow m cs more
 
 abbrev pub squaresIn : List Row → List Square
 squaresIn [] = []
-squaresIn (row m cs ∷ rs) = inRow m cs (squaresIn rs)
+squaresIn (row m k cs ∷ rs) = inRow m cs (squaresIn rs)
 
 -- the filled squares, row by row
 unfoldable pub squares : List Square
@@ -64,7 +77,10 @@ unfoldable pub pairOf : ℕ → Pairing
 unfolding squares
 pairOf c = pairIn squares c
 
--- ---- parts of the code: the table of 13 by 53
+-- 01's values of each answer to that: the mark and the follower. It has no number for either: 10 is a form's that lacks the character
+abbrev pub pairingValues : Pairing → List ℕ
+pairingValues (Of m l) = m ∷ l ∷ []
+pairingValues Nowhere = []
 
 -- "13 marks by 53 followers (52 letters and SPACE)": A to Z, a to z, SPACE
 unfoldable pub marks : List ℕ
@@ -73,6 +89,8 @@ marks = map markOf letters
 
 unfoldable pub followers : List ℕ
 followers = consecutive 0x41 26 ++ consecutive 0x61 26 ++ (0x20 ∷ [])
+
+-- ---- parts of the code: the table of 13 by 53
 
 -- a square as an entry of the table: 0 where it is empty
 unfoldable pub squareTable : List (List ℕ)
@@ -91,7 +109,7 @@ pairAt i = pick (leb 689 i) Nowhere (Of (getD marks (i / 53) 0) (getD followers 
 -- the place of a mark's row, and how many rows there are where the octet is no mark
 abbrev pub placeIn : List Row → ℕ → ℕ
 placeIn [] m = 0
-placeIn (row a cs ∷ rs) m = let more = suc (placeIn rs m) in pick (eqb a m) 0 more
+placeIn (row a k cs ∷ rs) m = let more = suc (placeIn rs m) in pick (eqb a m) 0 more
 
 unfoldable pub rowOf : ℕ → ℕ
 unfolding rows

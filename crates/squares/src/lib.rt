@@ -3,7 +3,8 @@ mod table;
 
 use sorts::Found;
 ghost use mathlib.Core.Path.{_≡_};
-ghost use Rattle.squares.specs.Squares.{squareOf, pairOf, rowOf, columnOf, pairAt, squareTable, squareIn};
+ghost use Rattle.squares.specs.Squares.{rowOf, pairAt};
+ghost use Rattle.squares.specs.Promises.{ColumnOfPromise, SquareTablePromise, SquareInPromise, PairedPromise, FindPairPromise};
 
 // The mark and the follower of a character.
 pub enum Pairing {
@@ -25,7 +26,7 @@ fn row_of(mark: u8) -> usize
 
 // The column of a follower, or 53 where the octet is none.
 pub fn column_of(follower: u8) -> usize
-    ensures { λ r. ⌜ r ≡ columnOf follower ⌝ }
+    ensures { λ r. ⌜ ColumnOfPromise follower r ⌝ }
 {
     match follower {
         0x41..=0x5A => (follower - 0x41) as usize,
@@ -37,14 +38,14 @@ pub fn column_of(follower: u8) -> usize
 
 // The table of squares, to be lent: made once for a whole text, as a look-up in a constant copies the whole of it.
 pub fn square_table() -> [[u16; 53]; 13]
-    ensures { λ r. ⌜ r ≡ squareTable ⌝ }
+    ensures { λ r. ⌜ SquareTablePromise r ⌝ }
 {
     table::SQUARES
 }
 
 // An entry of a lent table of squares: 0 where the square is empty, or past the table.
 pub fn square_in(table: &[[u16; 53]; 13], row: usize, column: usize) -> u32
-    ensures { λ r. ⌜ r ≡ squareIn (now (table .entry)) row column ⌝ }
+    ensures { λ r. ⌜ SquareInPromise (now (table .entry)) row column r ⌝ }
 {
     if 13 <= row {
         return 0;
@@ -57,7 +58,7 @@ pub fn square_in(table: &[[u16; 53]; 13], row: usize, column: usize) -> u32
 
 // The character of a mark, as its octet in the eight-bit forms, and a follower.
 pub fn paired(mark: u8, follower: u8) -> Found
-    ensures { λ r. ⌜ r ≡ squareOf mark follower ⌝ }
+    ensures { λ r. ⌜ PairedPromise mark follower r ⌝ }
 {
     let table = table::SQUARES;
     let x = square_in(&table, row_of(mark), column_of(follower));
@@ -79,7 +80,7 @@ fn pair_at(i: usize) -> Pairing
 
 // The pair of a character, looked for square by square.
 pub fn find_pair(c: u32) -> Pairing
-    ensures { λ r. ⌜ r ≡ pairOf c ⌝ }
+    ensures { λ r. ⌜ FindPairPromise c r ⌝ }
 {
     if c == 0 {
         return Pairing::Nowhere;

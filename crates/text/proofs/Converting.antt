@@ -6,30 +6,34 @@ use mathlib.Core.Logic.{_↔_}
 use mathlib.Core.List.{List, [], _∷_, _++_}
 use native.Mathlib.Omega.{arith}
 use lib.ListN.{length}
+use Rattle.run.specs.Speller.{Why}
+use Rattle.run.specs.Loops.{WholeAnswer}
 use Rattle.run.specs.Head.{refused, Outcome, accepted, refusal, from, outcome, join}
 use Rattle.run.specs.Grammar.{Run, RunOf, done, more, Stopped}
 use Rattle.run.specs.declared.Answer.{Answer}
 use Rattle.run.specs.Answers.{given, same, afterReading}
 use Rattle.run.proofs.Outcomes as outcomes
-use Rattle.run.proofs.Rooms.{WholeAnswer, numbered, first-refused, first-accepted}
-use Rattle.run.proofs.Spellers.{spelt-not, Why, why}
+use Rattle.run.proofs.Rooms.{numbered, first-refused, first-accepted}
+use Rattle.run.proofs.Spellers.{spelt-not, why}
 use Rattle.sorts.specs.declared.Form.{Form}
 use Rattle.sorts.specs.declared.FormFound.the-variants.{Is}
 use Rattle.sorts.specs.Forms.{formOf}
 use Rattle.element_words.specs.declared.Element.{Element}
 use Rattle.element_words.specs.Words.{wordsOf}
 use Rattle.element_reading.specs.Grammar.{Spells}
-use Rattle.element_reading.specs.Reading.{headIn}
+use Rattle.element_reading.specs.ElementHead.{headIn}
 use Rattle.element_reading.proofs.Reader.{reads, begins-head}
 use Rattle.element_spelling.specs.ElementOctets.{CanonicalElement, Held, spellElement}
 use Rattle.element_spelling.proofs.Writer.{canonical-given, canonical-some, read-held}
-use Rattle.text_reading.specs.ReadAnswers.{readIn, limit, readAnswer}
+use Rattle.text_reading.specs.ReadAnswers.{readIn, readAnswer}
+use Rattle.text_reading.specs.ReadingNumbers.{limit}
 use Rattle.text_reading.proofs.Edges.{a-form, within}
-use Rattle.text_reading.proofs.ByTable.{Meets}
+use Rattle.text_reading.specs.LawWords.{Meets}
 use Rattle.text_reading.proofs.ReadTexts.{accepted-exactly, read-meets, measure-is}
 use Rattle.text.specs.Outcomes.{Respells, respellHead, respellIn, convertIn}
 use Rattle.text.specs.WriteAnswers.{convertAnswer, convertText}
 use Rattle.text.specs.WritingNumbers.{FirstNotHeld, ConvertingFault}
+use Rattle.text.specs.Promises.{ConvertPromise}
 use Rattle.text.proofs.Respelling.{respell-reads, respells-of, held-proper}
 
 module _ (f g : Form) where
@@ -126,7 +130,7 @@ module _ (f g : Form) where
 
 -- ---- conversions compose
 
--- the same octets, or both are refused with 10, at the same element
+-- what two texts come to, each of which is read: the same octets, or both are refused with 10, at the same element
 abbrev pub Alike : Outcome (List ℕ) → Outcome (List ℕ) → Type 0
 Alike (accepted ss) y = y ≡ accepted ss
 Alike (refusal r n p d) (accepted ss) = ⊥
@@ -167,11 +171,8 @@ module _ (f g h : Form) where
 
 module _ (source target : ℕ) (f g : Form) (is-source : formOf source ≡ Is f) (is-target : formOf target ≡ Is g)
     (text out : List ℕ) (inside : length text ≤ limit) where
-  -- what a conversion promises: its answer, and what the lent buffer holds after
-  abbrev Promised : Answer → List ℕ → Type 0
-  Promised r out′ = (r ≡ convertAnswer source target text (length out)) × (out′ ≡ convertText source target text out)
-
-  pub converted : (r : Answer) (out′ : List ℕ) → WholeAnswer same (length text) out (convertIn f g text) r out′ → Promised r out′
+  pub converted : (r : Answer) (out′ : List ℕ) → WholeAnswer same (length text) out (convertIn f g text) r out′
+      → ConvertPromise source target text out r out′
   unfolding convertAnswer convertText
   converted r out′ e = (
     a-form _ _ _ _ _ is-source (a-form _ _ _ _ _ is-target (e .0 ∙ within text _ _ inside)),
@@ -180,7 +181,7 @@ module _ (source target : ℕ) (f g : Form) (is-source : formOf source ≡ Is f)
 
   module _ (m : Answer) (measured : m ≡ readAnswer source text (length text)) where
     -- the reading is refused, and so is the conversion
-    pub not-read : (m .number ≡ 0 → ⊥) → Promised m out
+    pub not-read : (m .number ≡ 0 → ⊥) → ConvertPromise source target text out m out
     unfolding convertIn
     not-read h =
         converted m out
@@ -189,7 +190,7 @@ module _ (source target : ℕ) (f g : Form) (is-source : formOf source ≡ Is f)
 
     -- the reading is accepted, and the conversion is the respelling
     pub is-read : m .number ≡ 0 → (r : Answer) (out′ : List ℕ) → WholeAnswer same (length text) out (respellIn f g text) r out′
-        → Promised r out′
+        → ConvertPromise source target text out r out′
     unfolding convertIn
     is-read h r out′ e =
         let q = measured ∙ measure-is source f is-source text inside in

@@ -1,7 +1,7 @@
--- The theorems of record: what the public functions of `text` and `text_reading` are worth. They speak of the definitions that the
--- contracts cite (`readAnswer`, `readWords` and the like), in the words of the grammar (`Spells`, `Refuses`, `CanonicalElement`,
--- `Held`), over the form. The sentence above each is the demand's that it carries out; document 01's own words stand in quotation
--- marks.
+-- The theorems of record: what the public functions of `text` and `text_reading` are worth. They speak of the promises, which the
+-- contracts cite by name (`ReadPromise` and the like), and of the definitions that these stand for (`readAnswer`, `readWords` and the
+-- like), in the words of the grammar (`Spells`, `Refuses`, `CanonicalElement`, `Held`), over the form. The sentence above each is the
+-- demand's that it carries out; document 01's own words stand in quotation marks.
 -- Assumes nothing.
 use Prim.Native.Nat.{ℕ, _+_, _≤_, _<_}
 use mathlib.Core.Path.{_≡_, refl, sym, ap, ap₂, _∙_, subst, subst₂}
@@ -9,7 +9,8 @@ use mathlib.Core.Logic.{_↔_, _⊎_, inl, inr}
 use mathlib.Core.Bool.{Bool, true, false}
 use mathlib.Core.List.{List, [], _∷_, _++_}
 use native.Mathlib.Omega.{arith}
-use lib.ListN.{length, drop, length-append}
+use lib.ListN.{length, take, drop, length-append}
+use lib.Seq.{take-append-seam}
 use lib.Dec.{leb}
 use Rattle.run.specs.Choice.{pick}
 use Rattle.run.specs.Head.{Outcome, accepted, refusal}
@@ -19,37 +20,48 @@ use Rattle.run.specs.Answers.{answer, bare, shortRoom, countOf, given, answerOf
 use Rattle.run.proofs.Outcomes as outcomes
 use Rattle.run.proofs.Outcomes.{run-append, run-length}
 use Rattle.run.proofs.Answers.{given-append}
-use Rattle.run.proofs.OneAnswer.{Once, once, Once-both, once-both}
+use Rattle.run.specs.OneAnswer.{Once, OnceBoth}
 use Rattle.sorts.specs.declared.Form.{Form}
 use Rattle.sorts.specs.declared.FormFound.{FormFound}
 use Rattle.sorts.specs.declared.FormFound.the-variants.{Is, Nothing}
 use Rattle.sorts.specs.Forms.{formOf, inForm}
 use Rattle.element_words.specs.declared.Element.{Element}
-use Rattle.element_reading.specs.declared.Step.{Step}
+use Rattle.element_reading.specs.declared.Step.the-variants.{End}
 use Rattle.element_words.specs.Words.{wordsOf}
 use Rattle.element_reading.specs.Grammar.{Spells, Refuses}
-use Rattle.element_reading.specs.Reading.{stepAnswer}
+use Rattle.element_reading.specs.ElementNumbers.{stepAnswer, stepWords, ElementRow}
 use Rattle.element_spelling.specs.ElementOctets.{CanonicalElement, Held, Writes}
 use Rattle.element_reading.proofs.Reader.{reads}
 use Rattle.element_reading.proofs.Places.{reading-number}
 use Rattle.element_spelling.proofs.Writer.{canonical-spells, one-spelling, read-held, writer-reads, writer-refuses-exactly}
-use Rattle.text_reading.specs.ReadAnswers.{readIn, limit, within-limit, readAnswer, readWords, loneStep}
-use Rattle.text_reading.specs.ReadingNumbers.{Answered, Formed, Tells, ReadingFault, ReadTable, LoneTable}
+use Rattle.text_reading.specs.ReadAnswers.{readIn, within-limit, readAnswer, readWords, loneStep}
+use Rattle.text_reading.specs.Promises.{MeasurePromise, ReadPromise, ReadElementPromise}
+use Rattle.text_reading.specs.ReadingNumbers.{limit, Answered, Formed, Tells, ReadingFault, ReadTable, LoneTable}
 use Rattle.text_reading.proofs.Edges.{a-form}
-use Rattle.text_reading.proofs.ByTable.{Meets, by-table, by-form, in-its-form, no-form-exactly, tells, kept-in-form}
+use Rattle.text_reading.specs.LawWords.{Meets}
+use Rattle.text_reading.proofs.ByTable.{by-table, by-form, in-its-form, no-form-exactly, tells, kept-in-form}
 use Rattle.text_reading.proofs.Steps.{count-is-place}
 use Rattle.text_reading.proofs.ReadTexts.{read-meets, words-fit}
 use Rattle.text_reading.proofs.Lone.{lone-exactly}
+use Rattle.text_reading.proofs.OneAnswer as reading
 use Rattle.text.specs.Outcomes.{Respells, writeIn, convertIn}
 use Rattle.text.specs.WriteAnswers.{writeAnswer, writeText, convertAnswer, convertText}
 use Rattle.text.specs.WritingNumbers.{WritingFault, ConvertingFault, WriteTable, ConvertTable}
+use Rattle.text.specs.SixteenReadings.{readings, AllHold}
+use Rattle.text.specs.DemandWords.{AllHeld, none, and, Converted, ConvertsTo, SameConversion}
+use Rattle.text.specs.Promises.{WritePromise, ConvertPromise}
+use Rattle.text.proofs.OneAnswer as writing
 use Rattle.text.proofs.Respelling.{respell-reads}
 use Rattle.text.proofs.Converting.{converted, convert-meets, respelt-means, read-converts, Alike, respelt-alike}
-use Rattle.text.proofs.SixteenReadings.{All, readings, sixteen}
+use Rattle.text.proofs.SixteenReadings.{sixteen}
 use Rattle.sorts.specs.Forms.{NoForm}
 use Rattle.sorts.proofs.FormNumbers.{none-exactly}
 
 -- ======== Demand 1: every input gets an answer, and each number is given exactly when document 01's table and order say so
+
+-- the same equations, read from the other side
+turned : {A B C : Type 0} {x a : A} {y b : B} → ((x ≡ a) × (y ≡ b)) ↔ C → ((a ≡ x) × (b ≡ y)) ↔ C
+turned e = (λ p. e .0 (sym (p .0), sym (p .1)), λ c. (sym (e .1 c .0), sym (e .1 c .1)))
 
 -- Each number from 1 to 12 is given exactly when the table and its order say so, with its element, place and count: the four numbers, and
 -- what the lent buffer holds after, are those of the table's row.
@@ -83,7 +95,29 @@ pub measure-exactly : (form : ℕ) (text : List ℕ) (a : Answer) (after : List 
     → ((readAnswer form text (length text) ≡ a) × (readWords form text text ≡ after)) ↔ ReadTable form text text a after
 measure-exactly form text = read-exactly form text text
 
-pub read-element-exactly : (form : ℕ) (text : List ℕ) (at : ℕ) (s : Step) → (loneStep form text at ≡ s) ↔ LoneTable form text at s
+-- So the promises, by the names that the functions' `ensures` cite, are that table.
+pub read-promised : (form : ℕ) (text words : List ℕ) (r : Answer) (after : List ℕ)
+    → ReadPromise form text words r after ↔ ReadTable form text words r after
+read-promised form text words r after = turned (read-exactly form text words r after)
+
+pub write-promised : (form : ℕ) (words text : List ℕ) (r : Answer) (after : List ℕ)
+    → WritePromise form words text r after ↔ WriteTable form words text r after
+write-promised form words text r after = turned (write-exactly form words text r after)
+
+pub convert-promised : (source target : ℕ) (text out : List ℕ) (r : Answer) (after : List ℕ)
+    → ConvertPromise source target text out r after ↔ ConvertTable source target text out r after
+convert-promised source target text out r after = turned (convert-exactly source target text out r after)
+
+pub measure-promised : (form : ℕ) (text : List ℕ) (r : Answer)
+    → MeasurePromise form text r ↔ ((after : List ℕ) × ReadTable form text text r after)
+measure-promised form text r = (
+  λ p. (readWords form text text, measure-exactly form text r _ .0 (sym p, refl)),
+  λ t. sym (measure-exactly form text r (t .0) .1 (t .1) .0),
+)
+
+-- A lone read: its four numbers, and the words of the element. (Its promise says so of each result.)
+pub read-element-exactly : (form : ℕ) (text : List ℕ) (at : ℕ) (a : Answer) (words : List ℕ)
+    → ((stepAnswer (loneStep form text at) ≡ a) × (stepWords (loneStep form text at) ≡ words)) ↔ LoneTable form text at a words
 read-element-exactly = lone-exactly
 
 -- The number tells the row. Reading refuses with 1 to 8 alone, writing with 10 alone, converting with these.
@@ -102,6 +136,11 @@ converting-numbered f g text r n p d h = go h
     go : {i j k l : ℕ} → ConvertingFault f g text i j k l → (0 < i) × (i < 11) × (i ≡ 9 → ⊥)
     go {i} {j} {k} {l} (ConvertingFault.reading h) = reading-numbered f text i j k l h
     go (ConvertingFault.not-held run k) = (omega arith, omega arith, λ e. omega arith)
+
+-- a conversion's refusal with 1 to 8 is the reading's
+by-reading : (f g : Form) {text : List ℕ} {r n p d : ℕ} → ConvertingFault f g text r n p d → r ≤ 8 → ReadingFault f text r n p d
+by-reading f g (ConvertingFault.reading h) l = h
+by-reading f g (ConvertingFault.not-held run k) l = absurd (omega arith)
 
 pub read-tells : (form : ℕ) (f : Form) → formOf form ≡ Is f → (text words : List ℕ)
     → Tells wordsOf (RunOf (Spells f) text) (ReadingFault f text) text words (readAnswer form text (length words))
@@ -197,43 +236,44 @@ convert-keeps source target text out =
     kept-in-form (λ f b l. kept-in-form (λ g a l h. tells (converting-numbered f g text) h .kept))
     (convert-exactly source target text out _ _ .0 (refl, refl))
 
--- The four numbers of a lone read: "A lone read's refusal has element 0".
+-- The four numbers of a lone read: "A lone read's refusal has element 0",
 pub read-element-refused : (form : ℕ) (f : Form) → formOf form ≡ Is f → (text : List ℕ) (at r d : ℕ) → length text ≤ limit
     → Refuses f (drop at text) r d → stepAnswer (loneStep form text at) ≡ answer r 0 at (at + d)
-read-element-refused form f q text at r d l h = ap stepAnswer (lone-exactly form text at _ .1 (LoneTable.refused q l h))
+read-element-refused form f q text at r d l h = lone-exactly form text at _ _ .1 (LoneTable.one-element q l (ElementRow.refused h)) .0
 
+-- and an element read comes with its words and the place after it.
 pub read-element-read : (form : ℕ) (f : Form) → formOf form ≡ Is f → (text : List ℕ) (at k : ℕ) (e : Element) → length text ≤ limit
-    → Begins (Spells f) (drop at text) e k → stepAnswer (loneStep form text at) ≡ answer 0 1 (at + k) (length (wordsOf e))
-read-element-read form f q text at k e l b = ap stepAnswer (lone-exactly form text at _ .1 (LoneTable.element q l b))
+    → Begins (Spells f) (drop at text) e k
+    → (stepAnswer (loneStep form text at) ≡ answer 0 1 (at + k) (length (wordsOf e))) × (stepWords (loneStep form text at) ≡ wordsOf e)
+read-element-read form f q text at k e l b = lone-exactly form text at _ _ .1 (LoneTable.one-element q l (ElementRow.element b))
+
+row-low : {f : Form} {text : List ℕ} {at : ℕ} {a : Answer} {words : List ℕ} → ElementRow f text at a words → a .number < 9
+row-low (ElementRow.none-left p) = omega arith
+row-low (ElementRow.element b) = omega arith
+row-low {f} (ElementRow.refused h) = omega (arith, reading-number f h .1)
 
 pub read-element-11 : (form : ℕ) (text : List ℕ) (at : ℕ) → (stepAnswer (loneStep form text at) .number ≡ 11) ↔ NoForm form
 read-element-11 form text at = (
-  forth (lone-exactly form text at _ .0 refl),
-  λ n. ap (λ (s : Step). stepAnswer s .number)
-      (lone-exactly form text at _ .1 (LoneTable.no-form n)),
+  forth (lone-exactly form text at _ _ .0 (refl, refl)),
+  λ n. ap (λ (a : Answer). a .number) (lone-exactly form text at _ _ .1 (LoneTable.no-form n) .0),
 )
   where
-    forth : {s : Step} → LoneTable form text at s → stepAnswer s .number ≡ 11 → NoForm form
+    forth : {a : Answer} {words : List ℕ} → LoneTable form text at a words → a .number ≡ 11 → NoForm form
     forth (LoneTable.no-form n) e = n
     forth (LoneTable.over-limit q l) e = absurd (omega arith)
-    forth (LoneTable.none-left q l p) e = absurd (omega arith)
-    forth (LoneTable.element q l b) e = absurd (omega arith)
-    forth (LoneTable.refused {f} q l h) e = absurd (omega (arith, reading-number f h .1))
+    forth (LoneTable.one-element q l r) e = absurd (omega (arith, row-low r))
 
 pub read-element-12 : (form : ℕ) (f : Form) → formOf form ≡ Is f → (text : List ℕ) (at : ℕ)
     → (stepAnswer (loneStep form text at) .number ≡ 12) ↔ (limit < length text)
 read-element-12 form f q text at = (
-  forth (lone-exactly form text at _ .0 refl),
-  λ l. ap (λ (s : Step). stepAnswer s .number)
-      (lone-exactly form text at _ .1 (LoneTable.over-limit q l)),
+  forth (lone-exactly form text at _ _ .0 (refl, refl)),
+  λ l. ap (λ (a : Answer). a .number) (lone-exactly form text at _ _ .1 (LoneTable.over-limit q l) .0),
 )
   where
-    forth : {s : Step} → LoneTable form text at s → stepAnswer s .number ≡ 12 → limit < length text
+    forth : {a : Answer} {words : List ℕ} → LoneTable form text at a words → a .number ≡ 12 → limit < length text
     forth (LoneTable.no-form n) e = absurd (omega arith)
     forth (LoneTable.over-limit q l) e = l
-    forth (LoneTable.none-left q l p) e = absurd (omega arith)
-    forth (LoneTable.element q l b) e = absurd (omega arith)
-    forth (LoneTable.refused {f} q l h) e = absurd (omega (arith, reading-number f h .1))
+    forth (LoneTable.one-element q l r) e = absurd (omega (arith, row-low r))
 
 -- No octet gives more than one word: room for as many words as the text has octets is never short.
 pub room-enough : (form : ℕ) (f : Form) → formOf form ≡ Is f → (text words : List ℕ) → length text ≤ length words
@@ -246,20 +286,17 @@ room-enough form f q text words h e =
 pub measure-never-9 : (form : ℕ) (f : Form) → formOf form ≡ Is f → (text : List ℕ) → readAnswer form text (length text) .number ≡ 9 → ⊥
 measure-never-9 form f q text = let l : length text ≤ length text = omega arith in room-enough form f q text text l
 
--- Each public function's promise allows one answer. The definitions are those of the functions' `ensures`.
-pub one-answer : (form target : ℕ) (text words out : List ℕ) (at : ℕ)
-    → Once (readAnswer form text (length text))  -- measure
-    × Once-both (readAnswer form text (length words)) (readWords form text words)  -- read
-    × Once-both (writeAnswer form words (length out)) (writeText form words out)  -- write
-    × Once-both (convertAnswer form target text (length out)) (convertText form target text out)  -- convert
-    × Once (loneStep form text at)  -- read_element
-one-answer form target text words out at = (
-  once (readAnswer form text (length text)),
-  once-both (readAnswer form text (length words)) (readWords form text words),
-  once-both (writeAnswer form words (length out)) (writeText form words out),
-  once-both (convertAnswer form target text (length out)) (convertText form target text out),
-  once (loneStep form text at),
-)
+-- Each public function's promise, by the name that its `ensures` cites, allows one answer.
+pub one-answer : (form target at : ℕ) (text words out : List ℕ)
+    → Once (MeasurePromise form text)
+    × OnceBoth (ReadPromise form text words)
+    × Once (ReadElementPromise form text at)
+    × OnceBoth (WritePromise form words out)
+    × OnceBoth (ConvertPromise form target text out)
+one-answer form target at text words out =
+    let read = reading.one-answer form 0 at text words End in
+    let write = writing.one-answer form target text words out in
+    (read .1, read .2, read .3, write .0, write .1)
 
 -- ======== Demand 2: what is accepted, and what it means; canonical spelling
 
@@ -305,19 +342,21 @@ pub one-way : (f : Form) {text : List ℕ} {ps qs : List (List ℕ)} {es fs : Li
     → Run (Spells f) text qs fs → (ps ≡ qs) × (es ≡ fs)
 one-way f = outcomes.one-run (reads f)
 
-module _ (f : Form) where
-  -- a list of elements that the form holds
-  pub data AllHeld : List Element → Type 0 where
-    none : AllHeld []
-    and : {e : Element} {es : List Element} → Held f e → AllHeld es → AllHeld (e ∷ es)
+-- What a form holds is what its texts can say.
+pub held-exactly : (f : Form) (e : Element) → Held f e ↔ ((octets : List ℕ) × Spells f octets e)
+held-exactly f e = (forth, λ h. read-held f (h .1))
+  where
+    forth : Held f e → (octets : List ℕ) × Spells f octets e
+    forth (Held.held {s} c) = (s, canonical-spells f c)
 
+module _ (f : Form) where
   -- What the form reads it holds.
-  pub read-all-held : {text : List ℕ} {ps : List (List ℕ)} {es : List Element} → Run (Spells f) text ps es → AllHeld es
+  pub read-all-held : {text : List ℕ} {ps : List (List ℕ)} {es : List Element} → Run (Spells f) text ps es → AllHeld f es
   read-all-held done = none
   read-all-held (more sp r) = and (read-held f sp) (read-all-held r)
 
   -- Each list of elements that a form holds has a canonical spelling,
-  pub has-canonical : {es : List Element} → AllHeld es → (s : List ℕ) × RunOf (CanonicalElement f) s es
+  pub has-canonical : {es : List Element} → AllHeld f es → (s : List ℕ) × RunOf (CanonicalElement f) s es
   has-canonical none = ([], ([], done))
   has-canonical (and (Held.held {s} c) h) = let i = has-canonical h in (s ++ i .0, (s ∷ i .1 .0, more c (i .1 .1)))
 
@@ -331,12 +370,12 @@ module _ (f : Form) where
   canonical-run done = done
   canonical-run (more c r) = more (canonical-spells f c) (canonical-run r)
 
-  canonical-held : {s : List ℕ} {ps : List (List ℕ)} {es : List Element} → Run (CanonicalElement f) s ps es → AllHeld es
+  canonical-held : {s : List ℕ} {ps : List (List ℕ)} {es : List Element} → Run (CanonicalElement f) s ps es → AllHeld f es
   canonical-held done = none
   canonical-held (more c r) = and (Held.held c) (canonical-held r)
 
   -- the words of a list of elements, and its canonical spelling: writing goes from the one to the other, piece by piece
-  writes-run : {s : List ℕ} {ps : List (List ℕ)} {es : List Element} → AllHeld es → Run (CanonicalElement f) s ps es
+  writes-run : {s : List ℕ} {ps : List (List ℕ)} {es : List Element} → AllHeld f es → Run (CanonicalElement f) s ps es
       → RunOf (Writes f) (given wordsOf es) ps × (given same ps ≡ s)
   unfolding given
   writes-run none done = (([], done), refl)
@@ -346,7 +385,7 @@ module _ (f : Form) where
   -- and back: what is written is the canonical spelling of a list of elements that the form holds
   record Written (words : List ℕ) (ss : List (List ℕ)) : Type 0 where
     elements : List Element
-    all-held : AllHeld elements
+    all-held : AllHeld f elements
     their-words : words ≡ given wordsOf elements
     canonical : Run (CanonicalElement f) (given same ss) ss elements
 
@@ -466,20 +505,8 @@ module _ (source target : ℕ) (f g : Form) (is-source : formOf source ≡ Is f)
       (e .0 ∙ ap₂ (λ (k : ℕ) (u : List ℕ). answer 0 k (length text) (length u)) (run-length (c .1)) (w .1), e .1 ∙ ap (over out) (w .1))
 
   -- and it writes nothing else; that spelling reads back in the target as that meaning.
-  pub record Converted (text out : List ℕ) : Type 0 where
-    pub octets : List ℕ
-    pub meaning : List Element
-    pub within : length text ≤ limit
-    pub means : RunOf (Spells f) text meaning
-    pub held : AllHeld g meaning
-    pub canonical : RunOf (CanonicalElement g) octets meaning
-    pub room : length octets ≤ length out
-    pub answers : convertAnswer source target text (length out) ≡ answer 0 (length meaning) (length text) (length octets)
-    pub writes : convertText source target text out ≡ over out octets
-    pub back : (words : List ℕ) → length octets ≤ limit → length (given wordsOf meaning) ≤ length words
-        → readWords target octets words ≡ over words (given wordsOf meaning)
-
-  pub converted-means : (text out : List ℕ) → convertAnswer source target text (length out) .number ≡ 0 → Converted text out
+  pub converted-means : (text out : List ℕ) → convertAnswer source target text (length out) .number ≡ 0
+      → Converted source target f g text out
   converted-means text out e =
       let t = convert-tells source target f g is-source is-target text out .is-0 e in
       let m = respelt-means f g (t .2 .1) in
@@ -493,7 +520,7 @@ module _ (source target : ℕ) (f g : Form) (is-source : formOf source ≡ Is f)
         room = t .3;
         answers = t .4 ∙ ap (λ (k : ℕ). answer 0 k (length text) (length (given same (t .0)))) (run-length (m .2));
         writes = t .5;
-        back = λ words l h. reads-back target g is-target (given same (t .0)) words (m .0) l (t .0, m .2) h .1;
+        back = λ words l h. reads-back target g is-target (given same (t .0)) words (m .0) l (t .0, m .2) h;
       }
 
   -- It is refused with 10 exactly at the first element that the target does not hold, its place the octets of the elements before it.
@@ -602,19 +629,12 @@ in-two-forms : (source target : ℕ) (f g : Form) → formOf source ≡ Is f →
 in-two-forms source target f g q p text out l =
     let e = converted source target f g q p text out l _ _ (refl, refl) in (sym (e .0), sym (e .1))
 
--- two conversions give the same number, element and count, and put the same octets
-pub record Same (a b : Answer) (after after′ : List ℕ) : Type 0 where
-  pub number : a .number ≡ b .number
-  pub element : a .element ≡ b .element
-  pub count : a .count ≡ b .count
-  pub octets : after ≡ after′
-
 alike-answers : (n m : ℕ) (l : List ℕ) (x y : Outcome (List ℕ)) → Alike x y
-    → Same (answerOf same n (length l) x) (answerOf same m (length l) y) (writtenOf same l x) (writtenOf same l y)
+    → SameConversion (answerOf same n (length l) x) (answerOf same m (length l) y) (writtenOf same l x) (writtenOf same l y)
 alike-answers n m l (accepted ss) y a = rw a (go (leb (length (given same ss)) (length l)))
   where
     go : (t : Bool)
-        → Same (pick t (answer 0 (length ss) n (length (given same ss))) (shortRoom (length (given same ss))))
+        → SameConversion (pick t (answer 0 (length ss) n (length (given same ss))) (shortRoom (length (given same ss))))
         (pick t (answer 0 (length ss) m (length (given same ss))) (shortRoom (length (given same ss)))) (writtenOf same l (accepted ss))
         (writtenOf same l (accepted ss))
     go true = record { number = refl; element = refl; count = refl; octets = refl }
@@ -634,8 +654,8 @@ alike-answers n m l (refusal r e p d) (refusal r′ e′ p′ d′) a =
 pub composes : (source second third : ℕ) (f g h : Form) → formOf source ≡ Is f → formOf second ≡ Is g → formOf third ≡ Is h
     → (text s out : List ℕ) (es : List Element) → length text ≤ limit → length s ≤ limit → RunOf (Spells f) text es
     → RunOf (CanonicalElement g) s es
-    → Same (convertAnswer source third text (length out)) (convertAnswer second third s (length out)) (convertText source third text out)
-    (convertText second third s out)
+    → SameConversion (convertAnswer source third text (length out)) (convertAnswer second third s (length out))
+    (convertText source third text out) (convertText second third s out)
 composes source second third f g h is-source is-second is-third text s out es l k r c =
     let a = in-two-forms source third f h is-source is-third text out l in
     let b = in-two-forms second third g h is-second is-third s out k in
@@ -647,7 +667,176 @@ composes source second third f g h is-source is-second is-third text s out es l 
     ) (respelt-alike f g h (r .1) (canonical-run g (c .1))) in
     rw (a .0, a .1, b .0, b .1) (alike-answers (length text) (length s) out (convertIn f h text) (convertIn g h s) alike)
 
+-- ---- from the promises' own words
+
+-- a number that is some form's
+known : (n : ℕ) → (NoForm n → ⊥) → (f : Form) × (formOf n ≡ Is f)
+known n h = go (formOf n) refl
+  where
+    go : (x : FormFound) → formOf n ≡ x → (f : Form) × (formOf n ≡ Is f)
+    go (Is f) q = (f, q)
+    go Nothing q = absurd (h (none-exactly n .0 q))
+
+-- a text that was read, or refused with 1 to 8, is of a form;
+of-form : (form : ℕ) (text words : List ℕ) {r : Answer} {after : List ℕ} → ReadPromise form text words r after → r .number < 11
+    → (f : Form) × (formOf form ≡ Is f)
+of-form form text words p z =
+    known form (λ n. omega (arith, z, read-11 form text words .1 n, ap (λ (a : Answer). a .number) (p .0)))
+
+-- a conversion that was accepted, or refused with 1 to 10, was between two
+between-forms : (source target : ℕ) (text out : List ℕ) {r : Answer} {after : List ℕ} → ConvertPromise source target text out r after
+    → r .number < 11 → ((f : Form) × (formOf source ≡ Is f)) × ((g : Form) × (formOf target ≡ Is g))
+between-forms source target text out p z =
+    let never : NoForm source ⊎ NoForm target → ⊥ =
+    λ n. omega (arith, z, convert-11 source target text out .1 n, ap (λ (a : Answer). a .number) (p .0)) in
+    (known source (λ n. never (inl n)), known target (λ n. never (inr n)))
+
+-- a text that was read is a run of as many elements
+run-read : (form : ℕ) (f : Form) → formOf form ≡ Is f → (text words : List ℕ) {r : Answer} {after : List ℕ}
+    → ReadPromise form text words r after → r .number ≡ 0
+    → (es : List Element) × RunOf (Spells f) text es × (r .element ≡ length es) × (length text ≤ limit)
+run-read form f q text words p z =
+    let t = read-tells form f q text words .is-0 (sym (ap (λ (a : Answer). a .number) (p .0)) ∙ z) in
+    (t .0, t .2, ap (λ (a : Answer). a .element) (p .0 ∙ t .4), t .1)
+
+-- what an accepted conversion tells: what the text means, and the octets that were written
+record Accepted (source target : ℕ) (f g : Form) (text out : List ℕ) (r : Answer) (after : List ℕ) : Type 0 where
+  converted : Converted source target f g text out
+  wrote : take (r .count) after ≡ converted .octets
+  elements : r .element ≡ length (converted .meaning)
+  count : r .count ≡ length (converted .octets)
+
+accepted-by : (source target : ℕ) (f g : Form) → formOf source ≡ Is f → formOf target ≡ Is g → (text out : List ℕ) {r : Answer}
+    {after : List ℕ} → ConvertPromise source target text out r after → r .number ≡ 0 → Accepted source target f g text out r after
+accepted-by source target f g is-source is-target text out {r} p z =
+    let c = converted-means source target f g is-source is-target text out (sym (ap (λ (a : Answer). a .number) (p .0)) ∙ z) in
+    let count : r .count ≡ length (c .octets) = ap (λ (a : Answer). a .count) (p .0 ∙ c .answers) in
+    record {
+      converted = c;
+      wrote = ap₂ take count (p .1 ∙ c .writes) ∙ take-append-seam (c .octets) (drop (length (c .octets)) out);
+      elements = ap (λ (a : Answer). a .element) (p .0 ∙ c .answers);
+      count = count;
+    }
+
+module _ (source target : ℕ) (s t : List ℕ) (within : length (s ++ t) ≤ limit) where
+  -- Two texts that convert, joined, convert to the octets of each, joined, with room enough lent.
+  pub joined-converts : (out₁ out₂ out : List ℕ) {r₁ r₂ r : Answer} {a₁ a₂ after : List ℕ} → ConvertPromise source target s out₁ r₁ a₁
+      → r₁ .number ≡ 0 → ConvertPromise source target t out₂ r₂ a₂ → r₂ .number ≡ 0 → r₁ .count + r₂ .count ≤ length out
+      → ConvertPromise source target (s ++ t) out r after
+      → (r ≡ answer 0 (r₁ .element + r₂ .element) (length (s ++ t)) (r₁ .count + r₂ .count))
+      × (after ≡ over out (take (r₁ .count) a₁ ++ take (r₂ .count) a₂))
+  joined-converts out₁ out₂ out {r₁} {r₂} p₁ z₁ p₂ z₂ room p =
+      let b = between-forms source target s out₁ p₁ (omega arith) in
+      let x = accepted-by source target (b .0 .0) (b .1 .0) (b .0 .1) (b .1 .1) s out₁ p₁ z₁ in
+      let y = accepted-by source target (b .0 .0) (b .1 .0) (b .0 .1) (b .1 .1) t out₂ p₂ z₂ in
+      let c = x .converted in
+      let d = y .converted in
+      let size : length (c .octets ++ d .octets) ≡ r₁ .count + r₂ .count =
+      length-append (c .octets) (d .octets) ∙ ap₂ _+_ (sym (x .count)) (sym (y .count)) in
+      let e =
+      joined-converted source target (b .0 .0) (b .1 .0) (b .0 .1) (b .1 .1) s t within (c .meaning) (d .meaning) (c .means) (d .means)
+      (c .held) (c .octets) (c .canonical) (d .octets) out (d .held) (d .canonical) (omega (arith, size, room)) in
+      let number : length (c .meaning ++ d .meaning) ≡ r₁ .element + r₂ .element =
+      length-append (c .meaning) (d .meaning) ∙ ap₂ _+_ (sym (x .elements)) (sym (y .elements)) in (
+        p .0 ∙ e .0 ∙ ap₂ (λ (n k : ℕ). answer 0 n (length (s ++ t)) k) number size,
+        p .1 ∙ e .1 ∙ ap (over out) (ap₂ _++_ (sym (x .wrote)) (sym (y .wrote))),
+      )
+
+  -- A conversion whose second text is refused with 1 to 8 is refused as by itself, element number, place and count moved up, whatever the
+  -- target holds: the first text need only be read.
+  pub joined-convert-refused : (words out₂ out : List ℕ) {q a r : Answer} {w a₂ after : List ℕ} → ReadPromise source s words q w
+      → q .number ≡ 0 → ConvertPromise source target t out₂ a a₂ → 1 ≤ a .number → a .number ≤ 8
+      → ConvertPromise source target (s ++ t) out r after
+      → (r ≡ answer (a .number) (q .element + a .element) (length s + a .place) (length s + a .count)) × (after ≡ out)
+  joined-convert-refused words out₂ out {q} {a} pq z p₂ low high p =
+      let b = between-forms source target t out₂ p₂ (omega arith) in
+      let f = b .0 .0 in
+      let g = b .1 .0 in
+      let first = run-read source f (b .0 .1) s words pq z in
+      let v =
+      subst (λ (x : Answer). Tells same (RunOf (Respells f g) t) (ConvertingFault f g t) t out₂ x (convertText source target t out₂))
+      (sym (p₂ .0)) (convert-tells source target f g (b .0 .1) (b .1 .1) t out₂) .is-fault (omega arith) (omega arith)
+      (λ i. omega arith) in
+      let e =
+      outcomes.joined-refused (reads f) s t (first .0) (a .number) (a .element) (a .place) (v .0)
+      (read-meets f s .runs (first .0) .1 (first .1))
+      (read-meets f t .faults (a .number) (a .element) (a .place) (v .0) .1 (by-reading f g (v .2) high)) in
+      let answered =
+      convert-exactly source target (s ++ t) out _ _ .1
+      (Formed.of-form (b .0 .1) (Formed.of-form (b .1 .1)
+      (Answered.fault within (ConvertingFault.reading (read-meets f (s ++ t) .faults _ _ _ _ .0 e))))) in
+      let moved : countOf (a .number) (length s + v .0) ≡ length s + a .count =
+      sym (count-is-place (a .number) (length s + v .0) high)
+      ∙ ap (λ (i : ℕ). length s + i) (count-is-place (a .number) (v .0) high ∙ sym (v .3)) in (
+        p .0 ∙ answered .0
+            ∙ ap₂ (λ (n c : ℕ). answer (a .number) (n + a .element) (length s + a .place) c) (sym (first .2)) moved,
+        p .1 ∙ answered .1,
+      )
+
+-- Two texts of one form that are read, joined, respell as the two respelt and joined, with room enough lent.
+pub joined-respelt : (form : ℕ) (s t words₁ words₂ : List ℕ) → length (s ++ t) ≤ limit → {q₁ q₂ : Answer} {w₁ w₂ : List ℕ}
+    → ReadPromise form s words₁ q₁ w₁ → q₁ .number ≡ 0 → ReadPromise form t words₂ q₂ w₂ → q₂ .number ≡ 0
+    → (u : List ℕ) × (v : List ℕ) × ConvertsTo form form s (q₁ .element) u × ConvertsTo form form t (q₂ .element) v
+    × ConvertsTo form form (s ++ t) (q₁ .element + q₂ .element) (u ++ v)
+joined-respelt form s t words₁ words₂ within p₁ z₁ p₂ z₂ =
+    let f = of-form form s words₁ p₁ (omega arith) in
+    let x = run-read form (f .0) (f .1) s words₁ p₁ z₁ in
+    let y = run-read form (f .0) (f .1) t words₂ p₂ z₂ in
+    let c = respelt form (f .0) (f .1) s (x .0) (x .3) (x .1) in
+    let d = respelt form (f .0) (f .1) t (y .0) (y .3) (y .1) in
+    let both =
+    joined-converted form form (f .0) (f .0) (f .1) (f .1) s t within (x .0) (y .0) (x .1) (y .1) (read-all-held (f .0) (x .1 .1)) (c .0)
+    (c .1) (d .0) in (
+      c .0,
+      d .0,
+      λ out r after h p. let e = c .2 out h in
+          (p .0 ∙ e .0 ∙ ap (λ (n : ℕ). answer 0 n (length s) (length (c .0))) (sym (x .2)), p .1 ∙ e .1),
+      λ out r after h p. let e = d .2 out h in
+          (p .0 ∙ e .0 ∙ ap (λ (n : ℕ). answer 0 n (length t) (length (d .0))) (sym (y .2)), p .1 ∙ e .1),
+      λ out r after h p. let e = both out (read-all-held (f .0) (y .1 .1)) (d .1) h in (
+        p .0 ∙ e .0 ∙ ap (λ (n : ℕ). answer 0 n (length (s ++ t)) (length (c .0 ++ d .0)))
+            (length-append (x .0) (y .0) ∙ ap₂ _+_ (sym (x .2)) (sym (y .2))),
+        p .1 ∙ e .1,
+      ),
+    )
+
+-- If a text converts, converting the octets that were written to any third form gives the octets of the direct conversion, or the same
+-- number at the same element. The one premise is the limit, so that what was written is read again; the room is the same. The third may
+-- be any number, also no form's: then both give 11.
+module _ (source second third : ℕ) (text out last : List ℕ) where
+  both-11 : (s : List ℕ) (f g : Form) → formOf source ≡ Is f → formOf second ≡ Is g → NoForm third
+      → SameConversion (convertAnswer source third text (length last)) (convertAnswer second third s (length last))
+      (convertText source third text last) (convertText second third s last)
+  both-11 s f g q p n =
+      let a = convert-exactly source third text last _ _ .1 (Formed.of-form q (Formed.no-form n)) in
+      let b = convert-exactly second third s last _ _ .1 (Formed.of-form p (Formed.no-form n)) in
+      rw (a .0, a .1, b .0, b .1) record { number = refl; element = refl; count = refl; octets = refl }
+
+  pub converts-again : {r r₁ r₂ : Answer} {after a₁ a₂ : List ℕ} → ConvertPromise source second text out r after → r .number ≡ 0
+      → length (take (r .count) after) ≤ limit → ConvertPromise source third text last r₁ a₁
+      → ConvertPromise second third (take (r .count) after) last r₂ a₂ → SameConversion r₁ r₂ a₁ a₂
+  converts-again {r} {after = after} p z l p₁ p₂ =
+      rw (p₁ .0, p₁ .1, p₂ .0, p₂ .1) (go (formOf third) refl)
+    where
+      s : List ℕ
+      s = take (r .count) after
+
+      b : ((f : Form) × (formOf source ≡ Is f)) × ((g : Form) × (formOf second ≡ Is g))
+      b = between-forms source second text out p (omega arith)
+
+      w : Accepted source second (b .0 .0) (b .1 .0) text out r after
+      w = accepted-by source second (b .0 .0) (b .1 .0) (b .0 .1) (b .1 .1) text out p z
+
+      go : (x : FormFound) → formOf third ≡ x
+          → SameConversion (convertAnswer source third text (length last)) (convertAnswer second third s (length last))
+          (convertText source third text last) (convertText second third s last)
+      go (Is h) q =
+          composes source second third (b .0 .0) (b .1 .0) h (b .0 .1) (b .1 .1) q text s last (w .converted .meaning)
+          (w .converted .within) l (w .converted .means)
+          (subst (λ (u : List ℕ). RunOf (CanonicalElement (b .1 .0)) u (w .converted .meaning)) (sym (w .wrote)) (w .converted .canonical))
+      go Nothing q = both-11 s (b .0 .0) (b .1 .0) (b .0 .1) (b .1 .1) (none-exactly third .0 q)
+
 -- ======== "Sixteen readings to prove": all of them and only these, as one table under one claim, by computation
 
-pub sixteen-readings : All readings
+pub sixteen-readings : AllHold readings
 sixteen-readings = sixteen

@@ -1,5 +1,6 @@
 mod Respelling
 mod Places
 mod Converting
+pub mod OneAnswer
 pub mod SixteenReadings
 pub mod Demands

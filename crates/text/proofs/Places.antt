@@ -22,19 +22,19 @@ use Rattle.element_words.specs.declared.Meant.the-variants.{Element as Word, No
 use Rattle.element_words.specs.Words.{wordHead, meantOf, meantAt}
 use Rattle.element_words.proofs.Words.{words-read, words-refused}
 use Rattle.element_reading.specs.declared.Step.the-variants.{Element as Read}
-use Rattle.element_reading.specs.Reading.{headSort, headIn, stepOf, stepAt}
-use Rattle.text_reading.proofs.Steps.{Here}
+use Rattle.element_reading.specs.ElementHead.{headSort, headIn, stepOf, stepAt}
+use Rattle.text_reading.specs.LawWords.{HereStands}
 
 -- ---- words
 
-here-by : (h : Head Element) (at : ℕ) (e : Element) (next : ℕ) → meantOf at h ≡ Word e next → Here h at e next
+here-by : (h : Head Element) (at : ℕ) (e : Element) (next : ℕ) → meantOf at h ≡ Word e next → HereStands h at e next
 here-by (element e₀ k) at e next q = record { size = k; here = cc; onward = cc }
 here-by (refused r d) at e next q = let w : _≡_ {A = ℕ} 0 1 = cc in absurd (omega arith)
 here-by none at e next q = let w : _≡_ {A = ℕ} 0 1 = cc in absurd (omega arith)
 
 -- the element that the words at a place are
 pub word-here : (words : List ℕ) (at : ℕ) (e : Element) (next : ℕ) → meantAt words at ≡ Word e next
-    → Here (wordHead (drop at words)) at e next
+    → HereStands (wordHead (drop at words)) at e next
 unfolding meantAt
 word-here words at e next q = here-by (wordHead (drop at words)) at e next q
 

@@ -1,5 +1,6 @@
--- What words come to, written in a form, and what a text comes to, converted to a form. `Respells` is to be believed, the outcomes are
--- proved equal to its runs.
+-- To be believed, `Respells`: which octets of one form are respelt as which of another. Proved equal to its runs and to those of `Writes`
+-- (proofs/Demands: convert-exactly, write-exactly), the outcomes: what a text comes to, converted to a form, and what words come to,
+-- written in a form.
 -- Assumes nothing.
 use Prim.Native.Nat.{ℕ}
 use mathlib.Core.List.{List}
@@ -9,7 +10,7 @@ use Rattle.run.specs.Speller.{speltBy}
 use Rattle.sorts.specs.declared.Form.{Form}
 use Rattle.element_words.specs.declared.Element.{Element}
 use Rattle.element_reading.specs.Grammar.{Spells}
-use Rattle.element_reading.specs.Reading.{headIn}
+use Rattle.element_reading.specs.ElementHead.{headIn}
 use Rattle.element_spelling.specs.ElementOctets.{CanonicalElement, Held, spellElement, spellHead}
 use Rattle.text_reading.specs.ReadAnswers.{readIn}
 

@@ -1,5 +1,5 @@
--- Proved equal to document 01's table of numbers and its order of refusals (WritingNumbers): the answers of writing and of converting, and
--- what the lent buffer holds after.
+-- Proved equal to document 01's table of numbers and its order of refusals (WritingNumbers, by proofs/Demands: write-exactly,
+-- convert-exactly): the answers of writing and of converting, and what the lent buffer holds after.
 -- Assumes nothing.
 use Prim.Native.Nat.{ℕ}
 use mathlib.Core.List.{List}

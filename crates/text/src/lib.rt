@@ -13,10 +13,10 @@ ghost use Prim.Native.Nat.{_≤_};
 ghost use lib.ListN.{length};
 ghost use Rattle.run.specs.Answers.{answer, answerOf, writtenOf, roomyAnswer, roomFor, same};
 ghost use Rattle.lent_tables.specs.CodeTables.{codeTable};
-ghost use Rattle.element_reading.specs.Reading.{stepAt};
-ghost use Rattle.text_reading.specs.ReadAnswers.{limit};
+ghost use Rattle.element_reading.specs.ElementHead.{stepAt};
+ghost use Rattle.text_reading.specs.ReadingNumbers.{limit};
 ghost use Rattle.text.specs.Outcomes.{writeIn, respellIn};
-ghost use Rattle.text.specs.WriteAnswers.{writeAnswer, writeText, convertAnswer, convertText};
+ghost use Rattle.text.specs.Promises.{WritePromise, ConvertPromise};
 
 // 10, at the words or the element that the form does not hold, after n elements.
 fn not_held(n: usize, at: usize) -> Answer
@@ -173,13 +173,13 @@ fn respell_in(source: Form, target: Form, text: &[u8], out: &mut [u8]) -> Answer
 
 // Writes a list of words. 01's order of refusals: 11, 12, 10, 9.
 pub fn write(form: u32, words: &[u32], text: &mut [u8]) -> Answer
-    ensures { λ r. ⌜ (r ≡ writeAnswer form (now (words .entry)) (length (now (text .entry)))) × (now (text .exit) ≡ writeText form (now (words .entry)) (now (text .entry))) ⌝ }
+    ensures { λ r. ⌜ WritePromise form (now (words .entry)) (now (text .entry)) r (now (text .exit)) ⌝ }
 {
     let found = sorts::form_of(form);
     let FormFound::Is(f) = found else {
         return run::bare_answer(11);
     };
-    if 1048576 < words.len() {
+    if text_reading::LIMIT < words.len() {
         return run::bare_answer(12);
     }
     write_in(f, words, text)
@@ -187,7 +187,7 @@ pub fn write(form: u32, words: &[u32], text: &mut [u8]) -> Answer
 
 // Converts a whole text. 01's order of refusals: 11 (source, then target), 12, reading, 10, 9: the whole text is read, and only then respelt.
 pub fn convert(source: u32, target: u32, text: &[u8], out: &mut [u8]) -> Answer
-    ensures { λ r. ⌜ (r ≡ convertAnswer source target (now (text .entry)) (length (now (out .entry)))) × (now (out .exit) ≡ convertText source target (now (text .entry)) (now (out .entry))) ⌝ }
+    ensures { λ r. ⌜ ConvertPromise source target (now (text .entry)) (now (out .entry)) r (now (out .exit)) ⌝ }
 {
     let from = sorts::form_of(source);
     let FormFound::Is(f) = from else {
@@ -197,12 +197,12 @@ pub fn convert(source: u32, target: u32, text: &[u8], out: &mut [u8]) -> Answer
     let FormFound::Is(g) = to else {
         return run::bare_answer(11);
     };
-    if 1048576 < text.len() {
+    if text_reading::LIMIT < text.len() {
         return run::bare_answer(12);
     }
-    let m = text_reading::measure(source, text);
-    if m.number != 0 {
-        return m;
+    let read = text_reading::measure(source, text);
+    if read.number != 0 {
+        return read;
     }
     respell_in(f, g, text, out)
 }

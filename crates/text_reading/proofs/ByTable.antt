@@ -1,6 +1,6 @@
 -- An answer is given exactly by document 01's table and order, over any kind of input; and its number tells the row.
 -- Assumes nothing.
-use Prim.Native.Nat.{ℕ, _≤_, _<_}
+use Prim.Native.Nat.{ℕ, _≤_}
 use mathlib.Core.Path.{_≡_, refl, sym, ap, _∙_, subst₂}
 use mathlib.Core.Logic.{_↔_}
 use mathlib.Core.Bool.{Bool, true, false}
@@ -17,16 +17,12 @@ use Rattle.sorts.specs.declared.Form.{Form}
 use Rattle.sorts.specs.declared.FormFound.{FormFound}
 use Rattle.sorts.specs.declared.FormFound.the-variants.{Is, Nothing}
 use Rattle.sorts.specs.Forms.{formOf, inForm}
-use Rattle.text_reading.specs.ReadAnswers.{limit, within-limit}
-use Rattle.text_reading.specs.ReadingNumbers.{Answered, Formed, Tells}
+use Rattle.text_reading.specs.ReadAnswers.{within-limit}
+use Rattle.text_reading.specs.ReadingNumbers.{limit, Answered, Formed, Tells}
+use Rattle.text_reading.specs.LawWords.{Meets, FaultNumbers}
 use Rattle.text_reading.proofs.Edges.{no-form, a-form, over as past, within}
 use Rattle.sorts.specs.Forms.{NoForm}
 use Rattle.sorts.proofs.FormNumbers.{none-exactly}
-
--- an outcome is accepted exactly by Runs, and refused exactly by Fault
-pub record Meets {A : Type 0} (Runs : List A → Type 0) (Fault : ℕ → ℕ → ℕ → ℕ → Type 0) (x : Outcome A) : Type 0 where
-  pub runs : (es : List A) → (x ≡ accepted es) ↔ Runs es
-  pub faults : (r n p d : ℕ) → (x ≡ refusal r n p d) ↔ Fault r n p d
 
 module _ {A : Type 0} (gives : A → List ℕ) (Runs : List A → Type 0) (Fault : ℕ → ℕ → ℕ → ℕ → Type 0) (x : Outcome A)
     (meets : Meets Runs Fault x) (input buffer : List ℕ) where
@@ -76,7 +72,10 @@ module _ {A : Type 0} (gives : A → List ℕ) (Runs : List A → Type 0) (Fault
       (e .0 ∙ simp s, e .1 ∙ simp s)
 
   -- what is answered, and what the buffer holds, is exactly what the table says
-  pub by-table : (a : Answer) (after : List ℕ) → Is-given a after ↔ Row a after
+  pub by-table : (a : Answer) (after : List ℕ)
+      → ((within-limit input (bare 12) (answerOf gives (length input) (length buffer) x) ≡ a)
+      × (within-limit input buffer (writtenOf gives buffer x) ≡ after))
+      ↔ Answered gives Runs Fault input buffer a after
   by-table a after = (λ e. subst₂ Row (e .0) (e .1) (by-limit (leb (length input) limit) refl), of-row)
 
 module _ (form : ℕ) (buffer : List ℕ) (Inside : Form → Answer → List ℕ → Type 0) (k : Form → Answer) (l : Form → List ℕ)
@@ -115,12 +114,8 @@ module _ (form : ℕ) (buffer : List ℕ) (Inside : Form → Answer → List ℕ
 
 -- ---- the number tells the row
 
--- the number of a fault is none of 0, 9, 11 and 12
-abbrev pub Numbered : (ℕ → ℕ → ℕ → ℕ → Type 0) → Type 0
-Numbered Fault = (r n p d : ℕ) → Fault r n p d → (0 < r) × (r < 11) × (r ≡ 9 → ⊥)
-
 module _ {A : Type 0} {gives : A → List ℕ} {Runs : List A → Type 0} {Fault : ℕ → ℕ → ℕ → ℕ → Type 0} {input buffer : List ℕ}
-    (numbered : Numbered Fault) where
+    (numbered : FaultNumbers Fault) where
   pub tells : {a : Answer} {after : List ℕ} → Answered gives Runs Fault input buffer a after → Tells gives Runs Fault input buffer a after
   tells (Answered.over-limit h) =
       record {

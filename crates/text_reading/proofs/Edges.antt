@@ -10,7 +10,9 @@ use Rattle.run.specs.Answers.{bare}
 use Rattle.sorts.specs.declared.Form.{Form}
 use Rattle.sorts.specs.declared.FormFound.{FormFound}
 use Rattle.sorts.specs.declared.FormFound.the-variants.{Is, Nothing}
-use Rattle.text_reading.specs.ReadAnswers.{limit, within-limit}
+use Rattle.text_reading.specs.ReadAnswers.{within-limit}
+use Rattle.text_reading.specs.ReadingNumbers.{limit}
+use Rattle.text_reading.specs.LawWords.{Asked}
 use Rattle.sorts.specs.Forms.{inForm}
 
 module _ {A : Type 0} where
@@ -31,17 +33,12 @@ module _ {A : Type 0} where
 -- ---- an answer, and what the lent buffer holds after: 11, then 12, then what is promised in the form
 
 module _ (y : FormFound) (input buffer : List ℕ) (promised : Form → Answer) (held : Form → List ℕ) where
-  abbrev Asked : Answer → List ℕ → Type 0
-  Asked r after =
-      (r ≡ inForm y (bare 11) (λ f. within-limit input (bare 12) (promised f)))
-      × (after ≡ inForm y buffer (λ f. within-limit input buffer (held f)))
-
-  pub asked-none : {r : Answer} → r ≡ bare 11 → y ≡ Nothing → Asked r buffer
+  pub asked-none : {r : Answer} → r ≡ bare 11 → y ≡ Nothing → Asked y input buffer promised held r buffer
   asked-none e q = (e ∙ no-form _ _ _ q, no-form _ _ _ q)
 
-  pub asked-over : {r : Answer} {f : Form} → r ≡ bare 12 → y ≡ Is f → limit < length input → Asked r buffer
+  pub asked-over : {r : Answer} {f : Form} → r ≡ bare 12 → y ≡ Is f → limit < length input → Asked y input buffer promised held r buffer
   asked-over e q h = (e ∙ a-form _ _ _ _ _ q (over input _ _ h), a-form _ _ _ _ _ q (over input _ _ h))
 
   pub asked-within : {r : Answer} {after : List ℕ} {f : Form} → (r ≡ promised f) × (after ≡ held f) → y ≡ Is f → length input ≤ limit
-      → Asked r after
+      → Asked y input buffer promised held r after
   asked-within e q h = (a-form _ _ _ _ _ q (e .0 ∙ within input _ _ h), a-form _ _ _ _ _ q (e .1 ∙ within input _ _ h))

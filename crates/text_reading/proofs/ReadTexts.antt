@@ -6,12 +6,12 @@ use mathlib.Core.Logic.{_↔_}
 use mathlib.Core.List.{List, _++_}
 use native.Mathlib.Omega.{arith}
 use lib.ListN.{length, length-append}
+use Rattle.run.specs.Loops.{Bounded, WholeAnswer}
 use Rattle.run.specs.Head.{accepted, refusal, join}
 use Rattle.run.specs.Grammar.{Run, RunOf, done, more}
 use Rattle.run.specs.Answers.{given, answerOf, roomyAnswer}
 use Rattle.run.proofs.Outcomes as outcomes
-use Rattle.run.proofs.Loops.{Bounded}
-use Rattle.run.proofs.Rooms.{WholeAnswer, as-roomy}
+use Rattle.run.proofs.Rooms.{as-roomy}
 use Rattle.sorts.specs.declared.Form.{Form}
 use Rattle.sorts.specs.declared.FormFound.the-variants.{Is}
 use Rattle.sorts.specs.Forms.{formOf}
@@ -21,10 +21,10 @@ use Rattle.element_reading.specs.Grammar.{Spells, Refuses}
 use Rattle.element_reading.proofs.Reader.{reads, refuses-exactly-by}
 use Rattle.element_reading.proofs.Sizes.{words-few}
 use Rattle.element_words.proofs.Words.{words-short}
-use Rattle.text_reading.specs.ReadAnswers.{readIn, limit, readAnswer, readWords}
-use Rattle.text_reading.specs.ReadingNumbers.{ReadingFault}
+use Rattle.text_reading.specs.ReadAnswers.{readIn, readAnswer, readWords}
+use Rattle.text_reading.specs.ReadingNumbers.{limit, ReadingFault}
+use Rattle.text_reading.specs.LawWords.{Meets}
 use Rattle.text_reading.proofs.Edges.{a-form, within}
-use Rattle.text_reading.proofs.ByTable.{Meets}
 
 module _ (f : Form) where
   -- A text is accepted exactly when it is a run of elements, with exactly these.

@@ -10,13 +10,14 @@ use lib.Dec.{ltb}
 use lib.ListN.{length, getD, set, drop, length-append, length-drop, length-map}
 use lib.Seq.{drop-cons}
 use borrow.Author.Tests.{lt-ltb, le-ltb, ltb-true}
+use Rattle.run.specs.Loops.{Passed, Counted, Filled}
 use Rattle.run.specs.Choice.{pick}
 use Rattle.run.specs.Head.{element}
 use Rattle.run.specs.Grammar.{Run, done, more}
 use Rattle.run.specs.Answers.{given, roomFor}
 use Rattle.run.specs.Put.{Put}
 use Rattle.run.proofs.Answers.{given-length}
-use Rattle.run.proofs.Loops.{Passed, turns, Counted, count-turn, Filled, fill-room, fill-rooms, fill-turn, fill-turns}
+use Rattle.run.proofs.Loops.{turns, count-turn, fill-room, fill-rooms, fill-turn, fill-turns}
 use Rattle.run.proofs.Puts.{put-none, put-as, put-both, put-length, put-entry}
 use Rattle.squares.specs.Squares.{squareTable}
 use Rattle.sorts.specs.declared.Form.{Form}
@@ -29,7 +30,7 @@ use Rattle.element_words.specs.declared.Element.{Element}
 use Rattle.element_words.specs.declared.Element.the-variants.{One}
 use Rattle.element_words.specs.Words.{wordsOf}
 use Rattle.element_reading.specs.Grammar.{Spells}
-use Rattle.element_reading.specs.Reading.{headSort, headIn, pairHead, followerHead}
+use Rattle.element_reading.specs.ElementHead.{headSort, headIn, pairHead, followerHead}
 use Rattle.element_reading.proofs.Reader.{reads}
 use Rattle.text_reading.specs.RunsAndPairs.{spacingWords, pairWord}
 use Rattle.text_reading.specs.ReadAnswers.{readIn}

@@ -9,36 +9,32 @@ use lib.ListN.{length, drop, length-drop}
 use borrow.Author.Tests.{le-leb}
 use types.Run.{OneOf}
 use denote.Enum.Declared.{tagOf}
+use Rattle.run.specs.Loops.{Counted, Filled}
 use Rattle.run.specs.Head.{Head, element, refused, none}
-use Rattle.run.specs.declared.Answer.{Answer}
 use Rattle.run.specs.Answers.{answer, countOf, roomyAnswer, roomFor}
-use Rattle.run.proofs.Loops.{Counted, count-stop, Filled, fill-never}
+use Rattle.run.proofs.Loops.{count-stop, fill-never}
 use Rattle.sorts.specs.declared.Form.{Form}
 use Rattle.element_reading.proofs.Step.{the-type}
 use Rattle.element_words.specs.declared.Element.{Element}
 use Rattle.element_reading.specs.declared.Step.{Step}
 use Rattle.element_reading.specs.declared.Step.the-variants.{Element as Read, Refused as Stopped, End}
 use Rattle.element_words.specs.Words.{wordsOf}
-use Rattle.element_reading.specs.Reading.{headIn, stepOf, stepAt}
+use Rattle.element_reading.specs.ElementHead.{headIn, stepOf, stepAt}
 use Rattle.element_reading.proofs.Reader.{reads, refuses-exactly-by}
 use Rattle.element_reading.proofs.Places.{reading-number}
 use Rattle.text_reading.specs.ReadAnswers.{readIn, stepAnswerAfter}
+use Rattle.text_reading.specs.LawWords.{HereStands, RefusedStep}
 use Rattle.text_reading.proofs.ReadTexts.{few-words}
 
 -- ---- a step that is an element
 
-pub record Here (h : Head Element) (at : ℕ) (e : Element) (next : ℕ) : Type 0 where
-  pub size : ℕ
-  pub here : h ≡ element e size
-  pub onward : next ≡ at + size
-
-here-by : (h : Head Element) (at : ℕ) (e : Element) (next : ℕ) → stepOf at h ≡ Read e next → Here h at e next
+here-by : (h : Head Element) (at : ℕ) (e : Element) (next : ℕ) → stepOf at h ≡ Read e next → HereStands h at e next
 here-by (element e₀ k) at e next q = record { size = k; here = cc; onward = cc }
 here-by (refused r d) at e next q = let w : _≡_ {A = ℕ} 0 1 = cc in absurd (omega arith)
 here-by none at e next q = let w : _≡_ {A = ℕ} 0 1 = cc in absurd (omega arith)
 
 pub here : (f : Form) (text : List ℕ) (at : ℕ) (e : Element) (next : ℕ) → stepAt f text at ≡ Read e next
-    → Here (headIn f (drop at text)) at e next
+    → HereStands (headIn f (drop at text)) at e next
 unfolding stepAt
 here f text at e next q = here-by (headIn f (drop at text)) at e next q
 
@@ -46,12 +42,6 @@ here f text at e next q = here-by (headIn f (drop at text)) at e next q
 
 pub count-is-place : (r d : ℕ) → r ≤ 8 → d ≡ countOf r d
 count-is-place r d h = sym (rw (le-leb r 8 h))
-
-pub record RefusedStep (f : Form) (text : List ℕ) (at : ℕ) (x : Step) : Type 0 where
-  pub number : ℕ
-  pub behind : ℕ
-  pub here : headIn f (drop at text) ≡ refused number behind
-  pub answers : (n : ℕ) → _≡_ {A = Answer} (stepAnswerAfter n x) (answer number n at (countOf number (at + behind)))
 
 module _ (f : Form) (text : List ℕ) (at : ℕ) where
   not-read : (x : Step) → OneOf (1 ∷ 2 ∷ []) (tagOf the-type x) → (e : Element) (k : ℕ) → x ≡ Read e k → ⊥

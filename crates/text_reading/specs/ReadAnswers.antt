@@ -1,5 +1,5 @@
--- Proved equal to document 01's table of numbers and its order of refusals (ReadingNumbers): the answers of the public functions, and what
--- a lent buffer holds after. To be believed: `limit`.
+-- Proved equal to document 01's table of numbers and its order of refusals (ReadingNumbers, by proofs/Demands of `text`: read-exactly,
+-- read-element-exactly): the answers of the public functions, and what a lent buffer holds after.
 -- Assumes nothing.
 use Prim.Native.Nat.{ℕ}
 use mathlib.Core.List.{List}
@@ -15,15 +15,13 @@ use Rattle.element_words.specs.declared.Element.{Element}
 use Rattle.element_reading.specs.declared.Step.{Step}
 use Rattle.element_reading.specs.declared.Step.the-variants.{Refused}
 use Rattle.element_words.specs.Words.{wordsOf}
-use Rattle.element_reading.specs.Reading.{headIn, stepAt, stepAnswer}
+use Rattle.element_reading.specs.ElementHead.{headIn, stepAt}
+use Rattle.element_reading.specs.ElementNumbers.{stepAnswer}
+use Rattle.text_reading.specs.ReadingNumbers.{limit}
 
 -- a text of a form, read: its elements, or the first refusal
 abbrev pub readIn : Form → List ℕ → Outcome Element
 readIn f text = outcome (headIn f) text
-
--- 12: "input over 1,048,576 entries"
-abbrev pub limit : ℕ
-limit = 1048576
 
 -- x where the input is over the limit
 abbrev pub within-limit : {A : Type 0} → List ℕ → A → A → A

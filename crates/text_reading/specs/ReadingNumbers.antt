@@ -2,23 +2,23 @@
 -- lent buffer holds after. What is read and refused is in the words of the grammar (`Spells`, `Refuses`); nothing here speaks of a
 -- reader.
 -- Assumes nothing.
-use Prim.Native.Nat.{ℕ, _+_, _≤_, _<_}
+use Prim.Native.Nat.{ℕ, _≤_, _<_}
 use mathlib.Core.Path.{_≡_}
-use mathlib.Core.List.{List}
-use lib.ListN.{length, drop}
-use Rattle.run.specs.Grammar.{RunOf, Begins, Stopped}
+use mathlib.Core.List.{List, []}
+use lib.ListN.{length}
+use Rattle.run.specs.Grammar.{RunOf, Stopped}
 use Rattle.run.specs.declared.Answer.{Answer}
 use Rattle.run.specs.Answers.{answer, bare, shortRoom, countOf, given, over}
 use Rattle.sorts.specs.declared.Form.{Form}
 use Rattle.sorts.specs.declared.FormFound.the-variants.{Is}
-use Rattle.sorts.specs.Forms.{formOf}
-use Rattle.element_words.specs.declared.Element.{Element}
-use Rattle.element_reading.specs.declared.Step.{Step}
-use Rattle.element_reading.specs.declared.Step.the-variants.{Element as Read, Refused, End}
+use Rattle.sorts.specs.Forms.{formOf, NoForm}
 use Rattle.element_words.specs.Words.{wordsOf}
 use Rattle.element_reading.specs.Grammar.{Spells, Refuses}
-use Rattle.text_reading.specs.ReadAnswers.{limit}
-use Rattle.sorts.specs.Forms.{NoForm}
+use Rattle.element_reading.specs.ElementNumbers.{ElementRow}
+
+-- 12: "input over 1,048,576 entries"
+abbrev pub limit : ℕ
+limit = 1048576
 
 -- ---- what is refused, behind a run of n elements, at the place p, with the deciding place d
 
@@ -68,17 +68,12 @@ pub data Formed (form : ℕ) (buffer : List ℕ) (Inside : Form → Answer → L
 abbrev pub ReadTable : ℕ → List ℕ → List ℕ → Answer → List ℕ → Type 0
 ReadTable form text words = Formed form words (λ f. Answered wordsOf (RunOf (Spells f) text) (ReadingFault f text) text words)
 
--- ---- one element at a place: 11, 12, none left, then the element or its refusal
+-- ---- one element at a place: 11, 12, then none left, the element or its refusal: the four numbers, and the element's words
 
 module _ (form : ℕ) (text : List ℕ) (at : ℕ) where
-  pub data LoneTable : Step → Type 0 where
-    no-form : NoForm form → LoneTable (Refused 11 0 0)
-    over-limit : {f : Form} → formOf form ≡ Is f → limit < length text → LoneTable (Refused 12 0 0)
-    -- "Asked at or past the end of the text, it answers that none is left."
-    none-left : {f : Form} → formOf form ≡ Is f → length text ≤ limit → length text ≤ at → LoneTable End
-    -- "the element and the place after it"
-    element : {f : Form} {e : Element} {k : ℕ} → formOf form ≡ Is f → length text ≤ limit → Begins (Spells f) (drop at text) e k
-        → LoneTable (Read e (at + k))
-    -- "or .. its refusal": number, place, count
-    refused : {f : Form} {r d : ℕ} → formOf form ≡ Is f → length text ≤ limit → Refuses f (drop at text) r d
-        → LoneTable (Refused r at (at + d))
+  pub data LoneTable : Answer → List ℕ → Type 0 where
+    no-form : NoForm form → LoneTable (bare 11) []
+    over-limit : {f : Form} → formOf form ≡ Is f → limit < length text → LoneTable (bare 12) []
+    -- "the element and the place after it, or .. its refusal"; "that none is left"
+    one-element : {f : Form} {a : Answer} {words : List ℕ} → formOf form ≡ Is f → length text ≤ limit → ElementRow f text at a words
+        → LoneTable a words

@@ -12,11 +12,16 @@ ghost use Rattle.squares.specs.Squares.{squareTable};
 ghost use Rattle.lent_tables.specs.CodeTables.{codeTable};
 ghost use Rattle.element_words.specs.Words.{wordsOf};
 ghost use Rattle.text_reading.specs.RunsAndPairs.{spacingWords, pairWord};
-ghost use Rattle.text_reading.specs.ReadAnswers.{readIn, limit, stepAnswerAfter, readAnswer, readWords, loneStep};
+ghost use Rattle.text_reading.specs.ReadAnswers.{readIn};
+ghost use Rattle.text_reading.specs.ReadingNumbers.{limit};
+ghost use Rattle.text_reading.specs.Promises.{StepAnswerPromise, MeasurePromise, ReadPromise, ReadElementPromise};
+
+// 12: "input over 1,048,576 entries".
+pub const LIMIT: usize = 1048576;
 
 // 01: "the text reader puts its own count there": a step's answer, after n elements.
 pub fn step_answer(step: Step, n: usize) -> Answer
-    ensures { λ r. ⌜ r ≡ stepAnswerAfter n step ⌝ }
+    ensures { λ r. ⌜ StepAnswerPromise step n r ⌝ }
 {
     match step {
         Step::Element(e, next) => Answer {
@@ -231,13 +236,13 @@ fn read_in(form: Form, text: &[u8], words: &mut [u32]) -> Answer
 // What a whole text comes to, read with room enough: 11, 12, reading, or its elements and how many words they are. As many words as the text
 // has octets are room enough.
 pub fn measure(form: u32, text: &[u8]) -> Answer
-    ensures { λ r. ⌜ r ≡ readAnswer form (now (text .entry)) (length (now (text .entry))) ⌝ }
+    ensures { λ r. ⌜ MeasurePromise form (now (text .entry)) r ⌝ }
 {
     let found = sorts::form_of(form);
     let FormFound::Is(f) = found else {
         return run::bare_answer(11);
     };
-    if 1048576 < text.len() {
+    if LIMIT < text.len() {
         return run::bare_answer(12);
     }
     measure_in(f, text)
@@ -245,13 +250,13 @@ pub fn measure(form: u32, text: &[u8]) -> Answer
 
 // Reads a whole text. 01's order of refusals: 11, 12, reading, 9.
 pub fn read(form: u32, text: &[u8], words: &mut [u32]) -> Answer
-    ensures { λ r. ⌜ (r ≡ readAnswer form (now (text .entry)) (length (now (words .entry)))) × (now (words .exit) ≡ readWords form (now (text .entry)) (now (words .entry))) ⌝ }
+    ensures { λ r. ⌜ ReadPromise form (now (text .entry)) (now (words .entry)) r (now (words .exit)) ⌝ }
 {
     let found = sorts::form_of(form);
     let FormFound::Is(f) = found else {
         return run::bare_answer(11);
     };
-    if 1048576 < text.len() {
+    if LIMIT < text.len() {
         return run::bare_answer(12);
     }
     read_in(f, text, words)
@@ -259,7 +264,7 @@ pub fn read(form: u32, text: &[u8], words: &mut [u32]) -> Answer
 
 // Reads one element. In order: 11, 12, none left, then the element or its refusal.
 pub fn read_element(form: u32, text: &[u8], at: usize) -> Step
-    ensures { λ r. ⌜ r ≡ loneStep form (now (text .entry)) at ⌝ }
+    ensures { λ r. ⌜ ReadElementPromise form (now (text .entry)) at r ⌝ }
 {
     let found = sorts::form_of(form);
     let FormFound::Is(f) = found else {
@@ -269,7 +274,7 @@ pub fn read_element(form: u32, text: &[u8], at: usize) -> Step
             count: 0,
         };
     };
-    if 1048576 < text.len() {
+    if LIMIT < text.len() {
         return Step::Refused {
             number: 12,
             place: 0,

@@ -7,7 +7,7 @@ use mathlib.Core.List.{List, [], _∷_, _++_}
 use mathlib.Core.Bool.{Bool, true, false}
 use native.Mathlib.Nat.{add-zero}
 use native.Mathlib.Omega.{arith}
-use lib.Dec.{leb, lit<}
+use lib.Dec.{leb}
 use lib.ListN.{length, getD, length-append, List·getD-map}
 use borrow.Author.Tests.{le-leb, lt-leb, lt-ltb, le-ltb, leb-true, leb-false}
 use Rattle.run.specs.Choice.{pick}
@@ -26,19 +26,21 @@ use Rattle.text_reading.specs.ReadAnswers.{readIn, readAnswer}
 use Rattle.text_reading.proofs.ReadTexts as text
 use Rattle.case_table.specs.declared.Header.{Header}
 use Rattle.case_table.specs.declared.Header.the-variants.{Refused, Pages}
-use Rattle.case_table.specs.Layout.{Layout, header, big16, ofForm}
+use Rattle.case_table.specs.Layout.{header, big16, ofForm}
 use Rattle.case_table.specs.Check.{headerOf}
-use Rattle.case_table.specs.Grammar.{Octets, CaseOf, TurnedBy, Turned}
+use Rattle.case_table.specs.Grammar.{Octets, CaseOf, Turned}
 use Rattle.case_table.proofs.Checked.{turned-exactly}
+use Rattle.case_table.proofs.Promised.{turned-number}
 use Rattle.case_table.proofs.Laid.{laid-exactly, case-header, case-pages}
 use Rattle.tlx.specs.declared.CaseAnswer.{CaseAnswer}
 use Rattle.tlx.specs.declared.Page.the-variants.{Is as IsPage, NoPage}
 use Rattle.tlx.specs.CaseReadingNumbers.{AllSpelt, none, more, Faulty, AcceptedCase, RefusedCase, of-case, of-page, CaseTable}
-use Rattle.tlx.specs.CaseReadingNumbers.{CaseTells}
-use Rattle.tlx.specs.CaseReading.{CaseOutcome, all, fault, joinPages, afterPage, readPage, readPages, readCase, beside}
-use Rattle.tlx.specs.CaseReading.{readCaseAnswer, readCaseWords, aloneAnswer, pageAnswer, outcomeOf, caseAnswer}
+use Rattle.tlx.specs.CaseReadingNumbers.{Size, CaseTells, beside}
+use Rattle.tlx.specs.CaseReading.{CaseOutcome, all, fault, joinPages, afterPage, readPage, readPages, readCase}
+use Rattle.tlx.specs.CaseReading.{readCaseAnswer, readCaseWords, aloneAnswer, pageAnswer, outcomeOf, caseAnswer, pageWords}
+use Rattle.tlx.specs.Promises.{ReadCasePromise}
 use Rattle.tlx.proofs.Pages.{join-none, join-join, page-read}
-use Rattle.tlx.proofs.Rooms.{case-turned}
+use Rattle.tlx.proofs.Rooms.{case-turned, turned-answers}
 use Rattle.sorts.proofs.FormNumbers.{is-found}
 
 module _ (form : ℕ) (f : Form) (is-form : formOf form ≡ Is f) where
@@ -215,36 +217,25 @@ module _ {case words : List ℕ} where
       let q = accepted-read a in let t = le-leb (length (given wordsOf es)) (length words) h in (simp (q, t), simp (q, t))
 
 module _ (case : List ℕ) (octets : Octets case) (words : List ℕ) where
-  abbrev size : List Element → ℕ
-  size es = length (given wordsOf es)
-
-  by-room : (es : List Element) → AcceptedCase case es → (t : Bool) → leb (size es) (length words) ≡ t
-      → CaseTable case words (beside 0 (pick t (answer 0 (length es) (length case) (size es)) (shortRoom (size es))))
+  by-room : (es : List Element) → AcceptedCase case es → (t : Bool) → leb (Size es) (length words) ≡ t
+      → CaseTable case words (beside 0 (pick t (answer 0 (length es) (length case) (Size es)) (shortRoom (Size es))))
       (pick t (over words (given wordsOf es)) words)
   by-room es a true e = CaseTable.accepted a (leb-true _ _ e)
   by-room es a false e = CaseTable.short-room a (leb-false _ _ e)
 
   by-outcome : (x : CaseOutcome) → readCase case ≡ x
       → CaseTable case words (caseAnswer (length case) (length words) x) (writtenOf wordsOf words (outcomeOf x))
-  by-outcome (all es) q = by-room es (case-accepted case octets es .0 q) (leb (size es) (length words)) refl
+  by-outcome (all es) q = by-room es (case-accepted case octets es .0 q) (leb (Size es) (length words)) refl
   by-outcome (fault g r n p d) q = CaseTable.refused (case-refused case octets g r n p d .0 q)
 
   -- Each of 11, 13, 14, 15, 9 and a page's refusal is given exactly when 01's table and order say so, with its page; and so is an
   -- acceptance.
-  pub read-case-exactly : (a : CaseAnswer) (after : List ℕ)
+  pub case-exactly : (a : CaseAnswer) (after : List ℕ)
       → ((readCaseAnswer case (length words) ≡ a) × (readCaseWords case words ≡ after)) ↔ CaseTable case words a after
   unfolding readCaseAnswer readCaseWords
-  read-case-exactly a after = (λ e. subst₂ (CaseTable case words) (e .0) (e .1) (by-outcome (readCase case) refl), of-row)
+  case-exactly a after = (λ e. subst₂ (CaseTable case words) (e .0) (e .1) (by-outcome (readCase case) refl), of-row)
 
 -- ---- the number tells the row
-
-turned-number : {layout : Layout} {header table : List ℕ} {size r : ℕ} → TurnedBy layout header table size r → (10 < r) × (r ≡ 12 → ⊥)
-turned-number (TurnedBy.under-8 h) = (lit< tt, λ e. omega arith)
-turned-number (TurnedBy.wrong-mark h n) = (lit< tt, λ e. omega arith)
-turned-number (TurnedBy.other-version w n) = (lit< tt, λ e. omega arith)
-turned-number (TurnedBy.no-form w n) = (lit< tt, λ e. omega arith)
-turned-number (TurnedBy.over-256 w h) = (lit< tt, λ e. omega arith)
-turned-number (TurnedBy.wrong-size w h n) = (lit< tt, λ e. omega arith)
 
 refused-number : {case : List ℕ} {g r n p d : ℕ} → RefusedCase case g r n p d → (0 < r) × (r ≡ 9 → ⊥) × (r ≡ 10 → ⊥) × (r ≡ 12 → ⊥)
 refused-number (of-case t) =
@@ -283,34 +274,7 @@ row-tells (CaseTable.accepted {es} a h) =
       kept = λ x. absurd (x refl);
     }
 
-pub read-case-tells : (case : List ℕ) → Octets case → (words : List ℕ)
-    → CaseTells case words (readCaseAnswer case (length words)) (readCaseWords case words)
-read-case-tells case octets words = row-tells (read-case-exactly case octets words _ _ .0 (refl, refl))
-
--- ---- of any case: what is not written
-
--- "A refusal writes nothing to any buffer."
-pub refusal-keeps : (case words : List ℕ) → (readCaseAnswer case (length words) .answer .number ≡ 0 → ⊥) → readCaseWords case words ≡ words
-unfolding readCaseAnswer readCaseWords
-refusal-keeps case words h = answers.refusal-keeps wordsOf (length case) words (outcomeOf (readCase case)) h
-
--- The buffer keeps its length.
-pub words-length : (case words : List ℕ) → length (readCaseWords case words) ≡ length words
-unfolding readCaseWords
-words-length case words = answers.written-length wordsOf (length case) words (outcomeOf (readCase case))
-
--- "Entries past the count stay."
-pub past-count : (case words : List ℕ) (k d : ℕ) → readCaseAnswer case (length words) .answer .count ≤ k
-    → getD (readCaseWords case words) k d ≡ getD words k d
-unfolding readCaseAnswer readCaseWords
-past-count case words k d h = answers.past-count wordsOf (length case) words (outcomeOf (readCase case)) k d h
-
 -- ---- the words of a case are its pages' words, joined
-
--- the words of a text, where it is accepted
-abbrev pub pageWords : Outcome Element → List ℕ
-pageWords (accepted es) = given wordsOf es
-pageWords (refusal r n p d) = []
 
 pub words-joined : (f : Form) {pages : List (List ℕ)} {es : List Element} → AllSpelt f pages es
     → given wordsOf es ≡ given (λ (page : List ℕ). pageWords (readIn f page)) pages
@@ -348,12 +312,86 @@ words-fit none = omega arith
 words-fit (more {page} {pages} {es} {fs} r s) =
     omega (arith, words-fit s, text.words-fit (r .1), answers.given-length wordsOf es fs, length-append page (given same pages))
 
-pub room-enough : (case : List ℕ) → Octets case → (words : List ℕ) → length case ≤ length words
-    → readCaseAnswer case (length words) .answer .number ≡ 9 → ⊥
-room-enough case octets words h e =
-    let t = read-case-tells case octets words .is-9 e in
-    let a = t .1 in
-    let table = given (λ (page : List ℕ). big16 (length page)) (a .pages) in
-    let octets = given same (a .pages) in
-    let l = ap length (a .laid .is) ∙ length-append (header 1 (a .form) (length (a .pages))) (table ++ octets) in
-    omega (arith, t .2, words-fit (a .spelt), l, length-append table octets)
+-- ---- from the promise of `read_case`, in its own words
+
+by-itself : {case : List ℕ} {g r n p d : ℕ} → RefusedCase case g r n p d → 10 < r → Turned case r
+by-itself (of-case t) h = t
+by-itself (of-page {f = f} q c i) h = absurd (omega (arith, reading-number f (i .refused .here)))
+
+module _ (case words : List ℕ) (r : CaseAnswer) (after : List ℕ) where
+  -- What `read_case` promises is a row of 01's table, of a case of octets; and a row, of such a case, is what it promises.
+  pub read-case-exactly : ReadCasePromise case words r after ↔ (CaseTable case words r after × Octets case)
+  read-case-exactly = (
+    λ p. (case-exactly case (p .2) words r after .0 (sym (p .0), sym (p .1)), p .2),
+    λ row. let e = case-exactly case (row .1) words r after .1 (row .0) in (sym (e .0), sym (e .1), row .1),
+  )
+
+  module _ (promise : ReadCasePromise case words r after) where
+    -- The number tells the row.
+    pub read-case-tells : CaseTells case words r after
+    read-case-tells = row-tells (read-case-exactly .0 promise .0)
+
+    answered : {a : CaseAnswer} {after′ : List ℕ} → CaseTable case words a after′ → r .answer .number ≡ a .answer .number
+    answered row = ap (λ (x : CaseAnswer). x .answer .number) (promise .0 ∙ of-row row .0)
+
+    -- 11, 13, 14 and 15 are given exactly when header and table are turned away so: no page's refusal has such a number.
+    pub read-case-turned : (n : ℕ) → 10 < n → (r .answer .number ≡ n) ↔ Turned case n
+    read-case-turned n h = (
+      λ e.
+          let t = read-case-tells .is-other (λ z. omega arith) (λ z. omega arith) in
+          subst (Turned case) e (by-itself (t .1) (omega arith)),
+      λ t. answered (CaseTable.refused (of-case t)),
+    )
+
+    -- They name no page, element or place, and write nothing.
+    pub read-case-turned-so : (n : ℕ) → Turned case n → (r ≡ beside 0 (bare n)) × (after ≡ words)
+    read-case-turned-so n t =
+        let e = turned-answers case n words (turned-exactly case n .1 t) in (promise .0 ∙ sym (e .0), promise .1 ∙ sym (e .1))
+
+    -- Every number but 0 and 9 is given exactly when the case is refused with it, by itself or at a page.
+    pub read-case-refused : (n : ℕ) → 0 < n → (n ≡ 9 → ⊥)
+        → (r .answer .number ≡ n) ↔ ((g : ℕ) × (k : ℕ) × (p : ℕ) × (d : ℕ) × RefusedCase case g n k p d)
+    read-case-refused n h m = (
+      λ e.
+          let t = read-case-tells .is-other (λ z. omega arith) (λ z. m (sym e ∙ z)) in
+          let i = subst (λ (x : ℕ). RefusedCase case (r .page) x (r .answer .element) (r .answer .place) (t .0)) e (t .1) in
+          (r .page, r .answer .element, r .answer .place, t .0, i),
+      λ x. answered (CaseTable.refused (x .4)),
+    )
+
+    -- 9 exactly when every page is a run of elements and the room is short,
+    pub read-case-short : (r .answer .number ≡ 9) ↔ ((es : List Element) × AcceptedCase case es × (length words < Size es))
+    read-case-short =
+        (λ e. let t = read-case-tells .is-9 e in (t .0, t .1, t .2), λ x. answered (CaseTable.short-room (x .1) (x .2)))
+
+    -- and 0 exactly when it is not.
+    pub read-case-accepted : (r .answer .number ≡ 0) ↔ ((es : List Element) × AcceptedCase case es × (Size es ≤ length words))
+    read-case-accepted =
+        (λ e. let t = read-case-tells .is-0 e in (t .0, t .1, t .2), λ x. answered (CaseTable.accepted (x .1) (x .2)))
+
+    -- "A refusal writes nothing to any buffer."
+    pub refusal-keeps : (r .answer .number ≡ 0 → ⊥) → after ≡ words
+    refusal-keeps = read-case-tells .kept
+
+    -- The buffer keeps its length.
+    pub words-length : length after ≡ length words
+    unfolding readCaseWords
+    words-length = ap length (promise .1) ∙ answers.written-length wordsOf (length case) words (outcomeOf (readCase case))
+
+    -- "Entries past the count stay."
+    pub past-count : (k d : ℕ) → r .answer .count ≤ k → getD after k d ≡ getD words k d
+    unfolding readCaseAnswer readCaseWords
+    past-count k d h =
+        ap (λ (l : List ℕ). getD l k d) (promise .1)
+        ∙ answers.past-count wordsOf (length case) words (outcomeOf (readCase case)) k d
+        (subst (λ (n : ℕ). n ≤ k) (ap (λ (a : CaseAnswer). a .answer .count) (promise .0)) h)
+
+    -- Room for as many words as the case has octets is never short.
+    pub room-enough : length case ≤ length words → r .answer .number ≡ 9 → ⊥
+    room-enough h e =
+        let t = read-case-tells .is-9 e in
+        let a = t .1 in
+        let table = given (λ (page : List ℕ). big16 (length page)) (a .pages) in
+        let octets = given same (a .pages) in
+        let l = ap length (a .laid .is) ∙ length-append (header 1 (a .form) (length (a .pages))) (table ++ octets) in
+        omega (arith, t .2, words-fit (a .spelt), l, length-append table octets)

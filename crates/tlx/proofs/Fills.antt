@@ -20,7 +20,7 @@ use Rattle.text_reading.specs.ReadAnswers.{readIn, readAnswer, readWords}
 use Rattle.case_table.specs.declared.Header.the-variants.{Pages}
 use Rattle.case_table.specs.Layout.{number16}
 use Rattle.case_table.specs.Check.{headerOf, pagesOf}
-use Rattle.case_table.proofs.PagePlaces.{part}
+use Rattle.case_table.specs.PagePlaces.{between}
 use Rattle.tlx.specs.CaseReading.{CaseOutcome, all, fault, joinPages, readPages, readCase, outcomeOf, readCaseWords}
 use Rattle.tlx.proofs.Pages.{Read, read-start, read-turn, read-stop, read-all, read-length, read-small}
 
@@ -65,7 +65,7 @@ module _ {case words₀ : List ℕ} (room : Roomy case words₀) {form pages sta
     f = was .read .right .the-form
 
     abbrev octets : List ℕ
-    octets = part case start (start + len)
+    octets = between case start (start + len)
 
     taken-by : {a : Answer} {l′ : List ℕ} (x : Outcome Element) → readIn f octets ≡ x
         → (a ≡ answerOf wordsOf len (length (behind words o)) x) × (l′ ≡ writtenOf wordsOf (behind words o) x) → Taken words o x a l′

@@ -9,7 +9,8 @@ use Rattle.run.specs.Answers.{bare}
 use Rattle.case_table.specs.declared.Header.the-variants.{Refused, Pages}
 use Rattle.case_table.specs.Layout.{number16}
 use Rattle.case_table.specs.Check.{headerOf}
-use Rattle.case_table.proofs.PagePlaces.{right-header, totalBefore, part, page-is}
+use Rattle.case_table.specs.PagePlaces.{totalBefore, between}
+use Rattle.case_table.proofs.PagePlaces.{right-header, page-is}
 use Rattle.tlx.specs.declared.Page.the-variants.{Is, NoPage}
 use Rattle.tlx.specs.CaseReading.{aloneAnswer, pageAnswer}
 
@@ -24,7 +25,7 @@ module _ (case : List ℕ) (page : ℕ) where
     no-page h = sym (simp (header, le-ltb page pages h))
 
     pub the-page : (start len : ℕ) → page < pages → start ≡ 8 + 2 * pages + totalBefore case page → len ≡ number16 case (8 + 2 * page)
-        → (a : Answer) → a ≡ aloneAnswer (form, part case start (start + len)) → Is a ≡ pageAnswer case page
+        → (a : Answer) → a ≡ aloneAnswer (form, between case start (start + len)) → Is a ≡ pageAnswer case page
     unfolding pageAnswer
     the-page start len h s e a q =
         let p = page-is (right-header case form pages header) h s e (form, []) in

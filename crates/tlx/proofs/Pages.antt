@@ -6,12 +6,13 @@ use mathlib.Core.List.{List, [], _++_, append-assoc, append-nil}
 use native.Mathlib.Nat.{zero-add, add-zero, add-assoc}
 use native.Mathlib.Omega.{arith}
 use lib.ListN.{length, drop, length-append, drop-of-length-le}
+use Rattle.run.specs.Loops.{Numbered}
 use Rattle.run.specs.Head.{Outcome, accepted, refusal}
 use Rattle.run.specs.declared.Answer.{Answer}
 use Rattle.run.specs.Answers.{answer, given, roomyAnswer}
 use Rattle.run.proofs.Answers.{given-length}
 use Rattle.run.proofs.Loops.{run-few}
-use Rattle.run.proofs.Rooms.{Numbered, numbered}
+use Rattle.run.proofs.Rooms.{numbered}
 use Rattle.sorts.specs.declared.Form.{Form}
 use Rattle.sorts.specs.declared.FormFound.the-variants.{Is}
 use Rattle.sorts.specs.Forms.{formOf}
@@ -23,11 +24,12 @@ use Rattle.text_reading.proofs.ReadTexts.{accepted-exactly, few-words, measure-
 use Rattle.case_table.specs.declared.Header.the-variants.{Pages}
 use Rattle.case_table.specs.Layout.{number16, lengthsIn, total}
 use Rattle.case_table.specs.Check.{headerOf, pagesOf}
-use Rattle.case_table.proofs.PagePlaces.{Right, right-header, totalBefore, part, pages-counted, start-next, page-inside, part-length}
-use Rattle.case_table.proofs.PagePlaces.{page-next}
+use Rattle.case_table.specs.PagePlaces.{Right, totalBefore, between}
+use Rattle.case_table.proofs.PagePlaces.{right-header, pages-counted, start-next, page-inside, between-length, page-next}
 use Rattle.tlx.specs.declared.CaseAnswer.{CaseAnswer}
-use Rattle.tlx.specs.CaseReading.{CaseOutcome, all, fault, joinPages, afterPage, readPage, readPages, readCase, beside, aloneAnswer}
+use Rattle.tlx.specs.CaseReading.{CaseOutcome, all, fault, joinPages, afterPage, readPage, readPages, readCase, aloneAnswer}
 use Rattle.tlx.specs.CaseReading.{caseMeasured}
+use Rattle.tlx.specs.CaseReadingNumbers.{beside}
 
 -- ---- one page
 
@@ -96,14 +98,14 @@ module _ {case : List ℕ} {form pages start page : ℕ} {es : List Element} (wa
 
   module _ (h : page < pages) {len : ℕ} (e : (len ≡ number16 case (8 + 2 * page)) × (len < 0x10000)) where
     abbrev octets : List ℕ
-    octets = part case start (start + len)
+    octets = between case start (start + len)
 
     -- the page lies in the case, and is short
     pub read-inside : start + len ≤ length case
     read-inside = page-inside (was .right) h (was .begins) (e .0)
 
     pub read-length : length octets ≡ len
-    read-length = part-length (was .right) h (was .begins) (e .0)
+    read-length = between-length (was .right) h (was .begins) (e .0)
 
     page-on : readPages (drop page (pagesOf case)) ≡ afterPage (readIn f octets) (readPages (drop (page + 1) (pagesOf case)))
     unfolding readPages
@@ -165,12 +167,12 @@ module _ {case : List ℕ} {form pages start page n count : ℕ} (was : Measured
   measured-small = omega (arith, was .number, was .counted, read-small (was .read))
 
   module _ (h : page < pages) {len : ℕ} (e : (len ≡ number16 case (8 + 2 * page)) × (len < 0x10000))
-      {m : Answer} (a : m ≡ aloneAnswer (form, part case start (start + len))) where
+      {m : Answer} (a : m ≡ aloneAnswer (form, between case start (start + len))) where
     abbrev g : Form
     g = was .read .right .the-form
 
     abbrev the-page : List ℕ
-    the-page = part case start (start + len)
+    the-page = between case start (start + len)
 
     by-page : m ≡ roomyAnswer wordsOf len (readIn g the-page)
     by-page =

@@ -7,6 +7,7 @@ use mathlib.Core.List.{List, [], _∷_}
 use native.Mathlib.Omega.{arith}
 use lib.Dec.{leb}
 use lib.ListN.{length}
+use Rattle.run.specs.Loops.{Numbered}
 use Rattle.run.specs.Head.{Outcome, accepted, refusal}
 use Rattle.run.specs.declared.Answer.{Answer}
 use Rattle.run.specs.Answers.{answer, bare, shortRoom, countOf, roomFor, writtenOf}
@@ -20,41 +21,42 @@ use Rattle.element_words.specs.declared.Element.{Element}
 use Rattle.case_table.specs.declared.Header.the-variants.{Refused, Pages}
 use Rattle.case_table.specs.Check.{headerOf, pagesOf}
 use Rattle.tlx.specs.declared.CaseAnswer.{CaseAnswer}
-use Rattle.tlx.specs.CaseReading.{CaseOutcome, all, fault, joinPages, afterPage, readPage, readPages, readCase, turned, beside}
+use Rattle.tlx.specs.CaseReading.{CaseOutcome, all, fault, joinPages, afterPage, readPage, readPages, readCase, turned}
 use Rattle.tlx.specs.CaseReading.{outcomeOf, pageOf, caseAnswer, caseMeasured, readCaseAnswer, readCaseWords}
+use Rattle.tlx.specs.CaseReadingNumbers.{beside}
 use Rattle.tlx.proofs.Pages.{case-is, has-number}
 
 -- ---- a refusal has a number
 
-joined-numbered : (es : List Element) (k : ℕ) (x : CaseOutcome) → rooms.Numbered (outcomeOf x)
-    → rooms.Numbered (outcomeOf (joinPages es k x))
+joined-numbered : (es : List Element) (k : ℕ) (x : CaseOutcome) → Numbered (outcomeOf x)
+    → Numbered (outcomeOf (joinPages es k x))
 joined-numbered es k (all fs) h = tt
 joined-numbered es k (fault g r n p d) h = h
 
-after-numbered : (x : CaseOutcome) → rooms.Numbered (outcomeOf x) → (y : Outcome Element) → rooms.Numbered y
-    → rooms.Numbered (outcomeOf (afterPage y x))
+after-numbered : (x : CaseOutcome) → Numbered (outcomeOf x) → (y : Outcome Element) → Numbered y
+    → Numbered (outcomeOf (afterPage y x))
 after-numbered x h (accepted es) z = joined-numbered es 1 x h
 after-numbered x h (refusal r n p d) z = z
 
-page-numbered : (page : ℕ × List ℕ) → rooms.Numbered (readPage page)
+page-numbered : (page : ℕ × List ℕ) → Numbered (readPage page)
 page-numbered page = by (formOf (page .0)) refl
   where
-    by : (y : FormFound) → formOf (page .0) ≡ y → rooms.Numbered (readPage page)
+    by : (y : FormFound) → formOf (page .0) ≡ y → Numbered (readPage page)
     by (Is f) q = rw q (has-number f (page .1) refl)
     by Nothing q = rw q (omega arith)
 
-pages-numbered : (pages : List (ℕ × List ℕ)) → rooms.Numbered (outcomeOf (readPages pages))
+pages-numbered : (pages : List (ℕ × List ℕ)) → Numbered (outcomeOf (readPages pages))
 unfolding readPages
 pages-numbered [] = tt
 pages-numbered (page ∷ pages) = after-numbered (readPages pages) (pages-numbered pages) (readPage page) (page-numbered page)
 
-case-numbered : (case : List ℕ) (form pages : ℕ) → headerOf case ≡ Pages form pages → rooms.Numbered (outcomeOf (readCase case))
+case-numbered : (case : List ℕ) (form pages : ℕ) → headerOf case ≡ Pages form pages → Numbered (outcomeOf (readCase case))
 case-numbered case form pages q = rw (case-is case form pages q) (pages-numbered (pagesOf case))
 
 -- ---- the whole answer
 
 -- an accepted case names no page
-no-page : (n : ℕ) (x : CaseOutcome) → rooms.Numbered (outcomeOf x) → caseMeasured n x .answer .number ≡ 0 → pageOf x ≡ 0
+no-page : (n : ℕ) (x : CaseOutcome) → Numbered (outcomeOf x) → caseMeasured n x .answer .number ≡ 0 → pageOf x ≡ 0
 no-page n (all es) z h = refl
 no-page n (fault g r e p d) z h = absurd (omega arith)
 
@@ -74,7 +76,7 @@ module _ (case : List ℕ) (form pages : ℕ) (header : headerOf case ≡ Pages 
       (ap₂ beside (ap (λ (y : CaseAnswer). y .page) q) (r .0), r .1)
 
   module _ (h : m .number ≡ 0) where
-    z : rooms.Numbered x
+    z : Numbered x
     z = case-numbered case form pages header
 
     named : pageOf (readCase case) ≡ 0

@@ -1,6 +1,5 @@
--- Proved equal to CaseReadingNumbers (proofs/Cases): what reading a case comes to, its answer and what the lent words hold after; one
--- page's answer (Cases: page-answers, no-page-answers, turned-page-answers). To be believed: `beside`, and `pageValues`, 01's values of
--- each answer.
+-- Proved equal to CaseReadingNumbers: what reading a case comes to, its answer and what the lent words hold after (proofs/Cases:
+-- case-exactly); one page's answer (proofs/EachPage: page-row, of-page-row). A part of the code: `caseMeasured`.
 -- Assumes nothing.
 use Prim.Native.Nat.{ℕ, _+_}
 use mathlib.Core.List.{List, [], _∷_, _++_}
@@ -9,17 +8,19 @@ use lib.ListN.{length, getD}
 use Rattle.run.specs.Choice.{pick}
 use Rattle.run.specs.Head.{Outcome, accepted, refusal}
 use Rattle.run.specs.declared.Answer.{Answer}
-use Rattle.run.specs.Answers.{bare, answerOf, writtenOf, roomyAnswer}
+use Rattle.run.specs.Answers.{given, answerOf, writtenOf, roomyAnswer}
 use Rattle.sorts.specs.Forms.{formOf, inForm}
 use Rattle.element_words.specs.declared.Element.{Element}
 use Rattle.element_words.specs.Words.{wordsOf}
 use Rattle.text_reading.specs.ReadAnswers.{readIn, readAnswer}
 use Rattle.case_table.specs.declared.Header.{Header}
 use Rattle.case_table.specs.declared.Header.the-variants.{Refused, Pages}
-use Rattle.case_table.specs.Check.{headerAnswer, headerOf, pagesOf}
+use Rattle.case_table.specs.Check.{headerOf, pagesOf}
+use Rattle.case_table.specs.HeaderNumbers.{headerAnswer}
 use Rattle.tlx.specs.declared.CaseAnswer.{CaseAnswer}
 use Rattle.tlx.specs.declared.Page.{Page}
 use Rattle.tlx.specs.declared.Page.the-variants.{Is, NoPage}
+use Rattle.tlx.specs.CaseReadingNumbers.{beside}
 
 -- what a case, or some pages of it, come to
 pub data CaseOutcome : Type 0 where
@@ -72,10 +73,6 @@ abbrev pub pageOf : CaseOutcome → ℕ
 pageOf (all es) = 0
 pageOf (fault page r n p d) = page
 
--- an answer, and the page beside it
-abbrev pub beside : ℕ → Answer → CaseAnswer
-beside page a = record { answer = a; page = page }
-
 -- "An accepted case answers 0, all elements, its length, and the count of its pages' words"; 9 where the room is short
 abbrev pub caseAnswer : ℕ → ℕ → CaseOutcome → CaseAnswer
 caseAnswer size room x = beside (pageOf x) (answerOf wordsOf size room (outcomeOf x))
@@ -87,12 +84,12 @@ readCaseAnswer case room = caseAnswer (length case) room (readCase case)
 unfoldable pub readCaseWords : List ℕ → List ℕ → List ℕ
 readCaseWords case words = writtenOf wordsOf words (outcomeOf (readCase case))
 
--- ---- one page
+-- the words of a page, where it is accepted
+abbrev pub pageWords : Outcome Element → List ℕ
+pageWords (accepted es) = given wordsOf es
+pageWords (refusal r n p d) = []
 
--- 01's number and values of each answer; 01 has none for a page that is not in the case
-abbrev pub pageValues : Page → Answer
-pageValues (Is a) = a
-pageValues NoPage = bare 0
+-- ---- one page
 
 -- the answer of a page's octets, read as a text with room enough
 abbrev pub aloneAnswer : ℕ × List ℕ → Answer

@@ -1,12 +1,13 @@
 -- To be believed: document 01's table of numbers and its order of refusals, for reading a case: which numbers are given, with which page,
--- and what the lent buffer holds after. Nothing here speaks of a reader.
+-- and what the lent buffer holds after; and the same of one page. Nothing here speaks of a reader.
 -- Assumes nothing.
 use Prim.Native.Nat.{ℕ, _≤_, _<_}
 use mathlib.Core.Path.{_≡_}
 use mathlib.Core.List.{List, [], _∷_, _++_}
-use lib.ListN.{length}
+use lib.ListN.{length, getD}
 use Rattle.run.specs.Grammar.{RunOf}
-use Rattle.run.specs.Answers.{answer, shortRoom, countOf, given, over}
+use Rattle.run.specs.declared.Answer.{Answer}
+use Rattle.run.specs.Answers.{answer, bare, shortRoom, countOf, given, over}
 use Rattle.sorts.specs.declared.Form.{Form}
 use Rattle.sorts.specs.declared.FormFound.the-variants.{Is}
 use Rattle.sorts.specs.Forms.{formOf}
@@ -16,7 +17,8 @@ use Rattle.element_reading.specs.Grammar.{Spells}
 use Rattle.text_reading.specs.ReadingNumbers.{ReadingFault}
 use Rattle.case_table.specs.Grammar.{CaseOf, Turned}
 use Rattle.tlx.specs.declared.CaseAnswer.{CaseAnswer}
-use Rattle.tlx.specs.CaseReading.{beside}
+use Rattle.tlx.specs.declared.Page.{Page}
+use Rattle.tlx.specs.declared.Page.the-variants.{Is as IsPage, NoPage}
 
 -- ---- pages
 
@@ -53,8 +55,12 @@ pub data RefusedCase (case : List ℕ) : ℕ → ℕ → ℕ → ℕ → ℕ →
       → Faulty f pages g r n p d → RefusedCase case g r n p d
 
 -- how many words the elements give
-abbrev Size : List Element → ℕ
+abbrev pub Size : List Element → ℕ
 Size es = length (given wordsOf es)
+
+-- an answer, and the page beside it
+abbrev pub beside : ℕ → Answer → CaseAnswer
+beside page a = record { answer = a; page = page }
 
 -- "13, 14, 11, 15, then pages from the first .., then 9"
 pub data CaseTable (case words : List ℕ) : CaseAnswer → List ℕ → Type 0 where
@@ -80,3 +86,24 @@ pub record CaseTells (case words : List ℕ) (a : CaseAnswer) (after : List ℕ)
   pub not-10 : a .answer .number ≡ 10 → ⊥
   pub not-12 : a .answer .number ≡ 12 → ⊥
   pub kept : (a .answer .number ≡ 0 → ⊥) → after ≡ words
+
+-- ---- one page
+
+-- 01's number and values of each answer: its four numbers; 01 has none for a page that is not in the case
+abbrev pub pageValues : Page → List Answer
+pageValues (IsPage a) = a ∷ []
+pageValues NoPage = []
+
+-- the case's own refusal; else the page's octets, as a text by themselves, with room enough; no numbers where there is no such page
+pub data PageTable (case : List ℕ) (page : ℕ) : List Answer → Type 0 where
+  -- "13, 14, 11, 15"
+  of-case : {r : ℕ} → Turned case r → PageTable case page (bare r ∷ [])
+  -- the case has fewer pages
+  no-page : {form : ℕ} {pages : List (List ℕ)} → CaseOf case form pages → length pages ≤ page → PageTable case page []
+  -- "places and elements counted from its start"
+  refused : {form : ℕ} {f : Form} {pages : List (List ℕ)} {r n p d : ℕ} → formOf form ≡ Is f → CaseOf case form pages
+      → page < length pages → ReadingFault f (getD pages page []) r n p d → PageTable case page (answer r n p (countOf r d) ∷ [])
+  -- "0, elements, input length, entries written", as with room enough
+  accepted : {form : ℕ} {f : Form} {pages : List (List ℕ)} {es : List Element} → formOf form ≡ Is f → CaseOf case form pages
+      → page < length pages → RunOf (Spells f) (getD pages page []) es
+      → PageTable case page (answer 0 (length es) (length (getD pages page [])) (Size es) ∷ [])

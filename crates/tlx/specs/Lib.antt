@@ -1,2 +1,3 @@
 pub mod CaseReading
 pub mod CaseReadingNumbers
+pub mod Promises

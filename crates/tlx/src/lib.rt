@@ -8,7 +8,8 @@ ghost use lib.ListN.{length};
 ghost use Rattle.element_words.specs.Words.{wordsOf};
 ghost use Rattle.run.specs.Answers.{roomFor};
 ghost use Rattle.case_table.specs.Check.{headerOf};
-ghost use Rattle.tlx.specs.CaseReading.{outcomeOf, readCase, caseMeasured, readCaseAnswer, readCaseWords, pageAnswer};
+ghost use Rattle.tlx.specs.CaseReading.{outcomeOf, readCase, caseMeasured, readCaseAnswer, readCaseWords};
+ghost use Rattle.tlx.specs.Promises.{PageElementsPromise, ReadCasePromise};
 
 // The four numbers of an answer, and the page beside them (0 in any answer that is not a page's refusal).
 #[repr(C)]
@@ -27,7 +28,7 @@ pub enum Page {
 
 // One page's answer, as with room enough; where header or table is refused, that refusal.
 pub fn page_elements(case: &[u8], page: usize) -> Page
-    ensures { λ r. ⌜ r ≡ pageAnswer (now (case .entry)) page ⌝ }
+    ensures { λ r. ⌜ PageElementsPromise (now (case .entry)) page r ⌝ }
 {
     let header = case_table::header_of(case);
     match header {
@@ -100,8 +101,9 @@ fn read_pages(form: u32, case: &[u8], pages: usize, words: &mut [u32]) -> CaseAn
     if numbers.number != 0 {
         return a;
     }
-    if words.len() < numbers.count {
-        let answer = run::short_room(numbers.count);
+    let count = numbers.count;
+    if words.len() < count {
+        let answer = run::short_room(count);
         return CaseAnswer { answer, page: 0 };
     }
     fill_pages(form, case, pages, words);
@@ -110,7 +112,7 @@ fn read_pages(form: u32, case: &[u8], pages: usize, words: &mut [u32]) -> CaseAn
 
 // Reads a case. 01's order of refusals: 13, 14, 11, 15, the pages from the first, 9.
 pub fn read_case(case: &[u8], words: &mut [u32]) -> CaseAnswer
-    ensures { λ r. ⌜ (r ≡ readCaseAnswer (now (case .entry)) (length (now (words .entry)))) × (now (words .exit) ≡ readCaseWords (now (case .entry)) (now (words .entry))) ⌝ }
+    ensures { λ r. ⌜ ReadCasePromise (now (case .entry)) (now (words .entry)) r (now (words .exit)) ⌝ }
 {
     let header = case_table::header_of(case);
     match header {

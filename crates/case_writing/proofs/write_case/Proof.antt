@@ -19,7 +19,7 @@ use Rattle.sorts.proofs.FormNumbers.{form-small, found-is}
 -- what was asked before a place: the form is known, and the parts fit
 is-form : (c : tie.After-enum-told)
     → formOf (c .before .before .before .before .before .before .args .form) ≡ Is (c .enum-told .given .0 .0)
-is-form c = sym (c .before .before .form-of .ensures) ∙ c .enum-told .given .1
+is-form c = sym (c .before .before .form-of .ensures .0) ∙ c .enum-told .given .1
 
 they-fit : (c : tie.Else1) →
     let a = c .before .before .before .before .before .before .before .before .args in
@@ -48,7 +48,7 @@ returns c =
     let f = c .before .before .before in
     let a = f .before .before .before .before .args in
     no-form _ (a .lengths .now) (a .octets .now) (a .case .now) _ (c .bare-answer .ensures)
-    (sym (f .form-of .ensures) ∙ c .before .enum-told2 .given .1)
+    (sym (f .form-of .ensures .0) ∙ c .before .enum-told2 .given .1)
 
 is-fitting-requires : tie.Need-is-fitting-requires
 is-fitting-requires c κs = search needs

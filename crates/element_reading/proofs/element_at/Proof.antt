@@ -1,13 +1,14 @@
--- By the sort of the first octet (first-here, refused-here), and at the end that none is left (none-left).
+-- By the sort of the first octet (first-here, control-here, refused-here), and at the end that none is left (none-left).
 use mathlib.Core.Path.{sym, _∙_}
 use native.Mathlib.Omega.{arith}
-use Rattle.element_reading.proofs.Steps.{none-left, first-here, refused-here, follower-behind, sequence-first}
+use Rattle.element_reading.proofs.Steps.{none-left, first-here, control-here, refused-here, follower-behind, sequence-first}
+use Rattle.element_reading.proofs.NumbersExactly.{step-kept}
 use borrow.Author.Needs.{needs}
 use Rattle.element_reading.proofs.element_at.Statement.{statement}
 use Rattle.element_reading.proofs.element_at.Tie as tie
 
 returns : tie.Need-returns
-returns c = none-left _ _ _ (c .if1 .taken)
+returns c = step-kept _ _ _ _ (none-left _ _ _ (c .if1 .taken))
 
 shared-slice-read-o : tie.Need-shared-slice-read-o
 shared-slice-read-o c = search needs
@@ -76,49 +77,56 @@ returns-2 : tie.Need-returns-2
 returns-2 c =
     let at-sort-in = c .before .before .before in
     let at-if1 = at-sort-in .before .before in
-    first-here _ _ _ _ (at-if1 .if1 .left) (sym (at-sort-in .sort-in .ensures) ∙ c .before .sort .given .1)
+    step-kept _ _ _ _
+    (first-here _ _ _ _ (at-if1 .if1 .left) (sym (at-sort-in .sort-in .ensures .0) ∙ c .before .sort .given .1))
 
 returns-3 : tie.Need-returns-3
 returns-3 c =
     let at-sort2 = c .before .before in
     let at-sort-in = at-sort2 .before .before in
     let at-if1 = at-sort-in .before .before in
-    c .follower-step .ensures ∙ follower-behind _ _ _ 1 _ _ ∙ first-here _ _ _ _ (at-if1 .if1 .left)
-    (sym (at-sort-in .sort-in .ensures) ∙ at-sort2 .sort2 .given .1)
+    step-kept _ _ _ _
+    (c .follower-step .ensures ∙ follower-behind _ _ _ 1 _ _ ∙ first-here _ _ _ _ (at-if1 .if1 .left)
+    (sym (at-sort-in .sort-in .ensures .0) ∙ at-sort2 .sort2 .given .1))
 
 returns-4 : tie.Need-returns-4
 returns-4 c =
     let at-sort-in = c .before .before .before in
     let at-if1 = at-sort-in .before .before in
-    c .underline-step .ensures ∙ first-here _ _ _ _ (at-if1 .if1 .left)
-    (sym (at-sort-in .sort-in .ensures) ∙ c .before .enum-told .given .1)
+    step-kept _ _ _ _
+    (c .underline-step .ensures ∙ first-here _ _ _ _ (at-if1 .if1 .left)
+    (sym (at-sort-in .sort-in .ensures .0) ∙ c .before .enum-told .given .1))
 
 returns-5 : tie.Need-returns-5
 returns-5 c =
     let at-sort-in = c .before .before .before in
     let at-if1 = at-sort-in .before .before in
-    c .shift-step .ensures ∙ first-here _ _ _ _ (at-if1 .if1 .left)
-    (sym (at-sort-in .sort-in .ensures) ∙ c .before .enum-told2 .given .1)
+    step-kept _ _ _ _
+    (c .shift-step .ensures ∙ first-here _ _ _ _ (at-if1 .if1 .left)
+    (sym (at-sort-in .sort-in .ensures .0) ∙ c .before .enum-told2 .given .1))
 
 returns-6 : tie.Need-returns-6
 returns-6 c =
     let at-sort-in = c .before .before in
     let at-if1 = at-sort-in .before .before in
-    first-here _ _ _ _ (at-if1 .if1 .left) (sym (at-sort-in .sort-in .ensures) ∙ c .enum-told3 .given .1)
+    step-kept _ _ _ _
+    (control-here _ _ _ _ (at-if1 .if1 .left) (sym (at-sort-in .sort-in .ensures .0) ∙ c .enum-told3 .given .1) (omega arith))
 
 returns-7 : tie.Need-returns-7
 returns-7 c =
     let at-sort-in = c .before .before .before in
     let at-if1 = at-sort-in .before .before in
-    c .sequence-step .ensures ∙ sequence-first _ _ (at-if1 .if1 .left) ∙ first-here _ _ _ _ (at-if1 .if1 .left)
-    (sym (at-sort-in .sort-in .ensures) ∙ c .before .enum-told4 .given .1)
+    step-kept _ _ _ _
+    (c .sequence-step .ensures ∙ sequence-first _ _ (at-if1 .if1 .left) ∙ first-here _ _ _ _ (at-if1 .if1 .left)
+    (sym (at-sort-in .sort-in .ensures .0) ∙ c .before .enum-told4 .given .1))
 
 returns-8 : tie.Need-returns-8
 returns-8 c =
     let at-sort3 = c .before .before in
     let at-sort-in = at-sort3 .before .before in
     let at-if1 = at-sort-in .before .before in
-    c .refused-at .ensures ∙ refused-here _ _ _ _ (at-if1 .if1 .left) (sym (at-sort-in .sort-in .ensures) ∙ at-sort3 .sort3 .given .1)
+    step-kept _ _ _ _
+    (c .refused-at .ensures ∙ refused-here _ _ _ _ (at-if1 .if1 .left) (sym (at-sort-in .sort-in .ensures .0) ∙ at-sort3 .sort3 .given .1))
 
 pub element-at-spec : {M : Type 1} → statement M
 element-at-spec =

@@ -1,7 +1,7 @@
 -- The end (follower-end), a listed follower (follower-is), any other (follower-not).
 use mathlib.Core.Path.{sym, ap, _∙_}
 use Rattle.squares.proofs.SquareFacts.{square-small}
-use Rattle.element_reading.specs.Reading.{highOr}
+use Rattle.element_reading.specs.ElementHead.{highOr}
 use Rattle.element_reading.proofs.Steps.{follower-end, follower-not, follower-is}
 use borrow.Author.Needs.{needs}
 use Rattle.element_reading.proofs.follower_step.Statement.{statement}
@@ -42,11 +42,11 @@ returns-2 c =
     let at-if1 = at-paired .before .before in
     let at-pre = at-if1 .before .before in
     c .refused-at2 .ensures ∙ follower-not _ _ _ _ _ _ (at-pre .pre .0) _ (at-if1 .if1 .left)
-    (sym (at-paired .paired .ensures) ∙ at-enum-told .enum-told .given .1)
-    (c .before .high-or .ensures ∙ ap (highOr 3) (at-sort-in .sort-in .ensures))
+    (sym (at-paired .paired .ensures .0) ∙ at-enum-told .enum-told .given .1)
+    (c .before .high-or .ensures ∙ ap (highOr 3) (at-sort-in .sort-in .ensures .0))
 
 graphic-word-requires : tie.Need-graphic-word-requires
-graphic-word-requires c κs = square-small _ _ _ (sym (c .before .before .before .paired .ensures) ∙ c .before .found .given .1)
+graphic-word-requires c κs = square-small _ _ _ (sym (c .before .before .before .paired .ensures .0) ∙ c .before .found .given .1)
 
 add-t10 : tie.Need-add-t10
 add-t10 c = search needs
@@ -57,7 +57,7 @@ returns-3 c =
     let at-paired = at-found .before .before in
     let at-if1 = at-paired .before .before in
     let at-pre = at-if1 .before .before in
-    follower-is _ _ _ _ _ _ (at-pre .pre .0) _ _ (at-if1 .if1 .left) (sym (at-paired .paired .ensures) ∙ at-found .found .given .1)
+    follower-is _ _ _ _ _ _ (at-pre .pre .0) _ _ (at-if1 .if1 .left) (sym (at-paired .paired .ensures .0) ∙ at-found .found .given .1)
     (c .graphic-word .ensures)
 
 pub follower-step-spec : {M : Type 1} → statement M

@@ -1,7 +1,7 @@
 -- The end (second-end), and by the sort of the octet after SS2 (second-here).
 use mathlib.Core.Path.{sym, _∙_}
 use Rattle.sorts.proofs.SortFacts.{shifted-graphic-small}
-use Rattle.element_reading.specs.Reading.{shiftedHead}
+use Rattle.element_reading.specs.ElementHead.{shiftedHead}
 use Rattle.element_reading.proofs.Steps.{second-end, second-here}
 use borrow.Author.Needs.{needs}
 use Rattle.element_reading.proofs.shift_step.Statement.{statement}
@@ -23,12 +23,12 @@ sort-shifted-requires : tie.Need-sort-shifted-requires
 sort-shifted-requires c κs = search needs
 
 second-step-requires : tie.Need-second-step-requires
-second-step-requires c κs = (c .before .before .if1 .left, λ d q. shifted-graphic-small _ _ _ (sym (c .sort-shifted .ensures) ∙ q))
+second-step-requires c κs = (c .before .before .if1 .left, λ d q. shifted-graphic-small _ _ _ (sym (c .sort-shifted .ensures .0) ∙ q))
 
 returns-2 : tie.Need-returns-2
 returns-2 c =
     unfold shiftedHead in c .second-step .ensures
-    ∙ second-here _ _ _ _ _ _ _ (c .before .before .before .if1 .left) (c .before .sort-shifted .ensures)
+    ∙ second-here _ _ _ _ _ _ _ (c .before .before .before .if1 .left) (c .before .sort-shifted .ensures .0)
 
 pub shift-step-spec : {M : Type 1} → statement M
 shift-step-spec =

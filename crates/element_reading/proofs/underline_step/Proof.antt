@@ -2,7 +2,7 @@
 use mathlib.Core.Path.{sym, _∙_}
 use native.Mathlib.Omega.{arith}
 use Rattle.sorts.proofs.SortFacts.{graphic-small}
-use Rattle.element_reading.specs.Reading.{underlinedHead}
+use Rattle.element_reading.specs.ElementHead.{underlinedHead}
 use Rattle.element_reading.proofs.Steps.{second-end, second-here}
 use borrow.Author.Needs.{needs}
 use Rattle.element_reading.proofs.underline_step.Statement.{statement}
@@ -24,12 +24,12 @@ sort-in-requires : tie.Need-sort-in-requires
 sort-in-requires c κs = search needs
 
 second-step-requires : tie.Need-second-step-requires
-second-step-requires c κs = (c .before .before .if1 .left, λ d q. omega (arith, graphic-small _ _ _ (sym (c .sort-in .ensures) ∙ q)))
+second-step-requires c κs = (c .before .before .if1 .left, λ d q. omega (arith, graphic-small _ _ _ (sym (c .sort-in .ensures .0) ∙ q)))
 
 returns-2 : tie.Need-returns-2
 returns-2 c =
     unfold underlinedHead in c .second-step .ensures
-    ∙ second-here _ _ _ _ _ _ _ (c .before .before .before .if1 .left) (c .before .sort-in .ensures)
+    ∙ second-here _ _ _ _ _ _ _ (c .before .before .before .if1 .left) (c .before .sort-in .ensures .0)
 
 pub underline-step-spec : {M : Type 1} → statement M
 underline-step-spec =

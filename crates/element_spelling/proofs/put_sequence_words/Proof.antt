@@ -19,7 +19,7 @@ sort-tag-requires c κs = search needs
 returns : tie.Need-returns
 returns c =
     put-nothing _ _ _
-    (no-start _ _ _ (λ e. c .if1 .taken (c .before .sort-tag .ensures ∙ ap sortTag (c .before .before .sort-in .ensures) ∙ e)))
+    (no-start _ _ _ (λ e. c .if1 .taken (c .before .sort-tag .ensures ∙ ap sortTag (c .before .before .sort-in .ensures .0) ∙ e)))
 
 is-sequence-requires : tie.Need-is-sequence-requires
 is-sequence-requires c κs = search needs
@@ -27,7 +27,7 @@ is-sequence-requires c κs = search needs
 returns-2 : tie.Need-returns-2
 returns-2 c =
     let at-if1 = c .before .before in
-    let sort = at-if1 .before .sort-tag .ensures ∙ ap sortTag (at-if1 .before .before .sort-in .ensures) in
+    let sort = at-if1 .before .sort-tag .ensures ∙ ap sortTag (at-if1 .before .before .sort-in .ensures .0) in
     put-nothing _ _ _
     (not-spelt _ _ _ (sym sort ∙ at-if1 .if1 .left) (sym (c .before .is-sequence .ensures) ∙ not-true _ (c .if2 .taken)))
 
@@ -55,7 +55,7 @@ returns-3 c =
     let test = c .before .before .before .before .before in
     let is = sym (test .is-sequence .ensures) ∙ not-false _ (c .before .before .before .before .if2 .left) in
     let at-if1 = test .before in
-    let sort = at-if1 .before .sort-tag .ensures ∙ ap sortTag (at-if1 .before .before .sort-in .ensures) in
+    let sort = at-if1 .before .sort-tag .ensures ∙ ap sortTag (at-if1 .before .before .sort-in .ensures .0) in
     let start = sym sort ∙ at-if1 .if1 .left in
     fits-as (sym (is-spelt _ _ _ start is)) (put-as (putted _ _ is _ _) (c .before .before .put-sequence .ensures))
 

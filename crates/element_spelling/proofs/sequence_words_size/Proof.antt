@@ -20,7 +20,7 @@ returns : tie.Need-returns
 returns c =
     let at-sort-in = c .before .before in
     sym
-    (ap length (no-start _ _ _ (λ e. c .if1 .taken (c .before .sort-tag .ensures ∙ ap sortTag (at-sort-in .sort-in .ensures) ∙ e))))
+    (ap length (no-start _ _ _ (λ e. c .if1 .taken (c .before .sort-tag .ensures ∙ ap sortTag (at-sort-in .sort-in .ensures .0) ∙ e))))
 
 is-sequence-requires : tie.Need-is-sequence-requires
 is-sequence-requires c κs = search needs
@@ -28,7 +28,7 @@ is-sequence-requires c κs = search needs
 returns-2 : tie.Need-returns-2
 returns-2 c =
     let at-if1 = c .before .before in
-    let sort = at-if1 .before .sort-tag .ensures ∙ ap sortTag (at-if1 .before .before .sort-in .ensures) in
+    let sort = at-if1 .before .sort-tag .ensures ∙ ap sortTag (at-if1 .before .before .sort-in .ensures .0) in
     let no = sym (c .before .is-sequence .ensures) ∙ not-true _ (c .if2 .taken) in
     sym (ap length (not-spelt _ _ _ (sym sort ∙ at-if1 .if1 .left) no))
 
@@ -52,7 +52,7 @@ returns-3 : tie.Need-returns-3
 returns-3 c =
     let is = sym (c .before .before .is-sequence .ensures) ∙ not-false _ (c .before .if2 .left) in
     let at-if1 = c .before .before .before in
-    let sort = at-if1 .before .sort-tag .ensures ∙ ap sortTag (at-if1 .before .before .sort-in .ensures) in
+    let sort = at-if1 .before .sort-tag .ensures ∙ ap sortTag (at-if1 .before .before .sort-in .ensures .0) in
     c .sequence-size .ensures ∙ sized _ _ is ∙ sym (ap length (is-spelt _ _ _ (sym sort ∙ at-if1 .if1 .left) is))
 
 pub sequence-words-size-spec : {M : Type 1} → statement M

@@ -4,7 +4,7 @@ use native.Mathlib.Omega.{arith}
 use lib.ListN.{length}
 use lib.ListN.{length-take}
 use Rattle.run.proofs.Puts.{put-as, put-both}
-use Rattle.sequence_reading.specs.Reading.{listOf}
+use Rattle.sequence_reading.specs.EightValues.{listOf}
 use Rattle.element_words.specs.declared.Element.{Element}
 use Rattle.element_words.specs.Words.{wordsOf}
 use Rattle.element_words.proofs.Meanings.{words-one, words-sequence}

@@ -6,7 +6,7 @@ use borrow.Author.Needs.{needs}
 use lib.ListN.{take, length-take}
 use Rattle.run.specs.Put.{Put}
 use Rattle.run.proofs.Puts.{put-none, put-length, put-as}
-use Rattle.sequence_reading.specs.Reading.{listOf}
+use Rattle.sequence_reading.specs.EightValues.{listOf}
 use Rattle.element_words.proofs.Meanings.{values-more}
 use Rattle.element_words.proofs.put_values.Statement.{statement}
 use Rattle.element_words.proofs.put_values.Tie as tie

@@ -1,6 +1,6 @@
 -- A digit that passes 999 (digit-passes), and one that does not (digit-within).
 use mathlib.Core.Path.{sym, ap, _∙_}
-use Rattle.sequence_reading.specs.Reading.{unlessLate}
+use Rattle.sequence_reading.specs.SequenceHead.{unlessLate}
 use Rattle.sequence_reading.proofs.Steps.{digit-passes, digit-within}
 use native.Mathlib.Omega.{arith}
 use borrow.Author.Needs.{needs}

@@ -1,6 +1,6 @@
 -- An intermediate is taken unless it is late or the sequence full (middle-within).
 use mathlib.Core.Path.{sym, ap, _∙_}
-use Rattle.sequence_reading.specs.Reading.{unlessLate}
+use Rattle.sequence_reading.specs.SequenceHead.{unlessLate}
 use Rattle.sequence_reading.proofs.Steps.{middle-within}
 use borrow.Author.Needs.{needs}
 use Rattle.sequence_reading.proofs.middle_step.Statement.{statement}

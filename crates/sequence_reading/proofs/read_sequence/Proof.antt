@@ -5,6 +5,7 @@ use mathlib.Core.Logic.{⊎-elim}
 use lib.ListN.{length}
 use Rattle.sequence_reading.proofs.Places.{none-left, no-sequence, Reached, reached-start, reached-more, reached-value, reached-last}
 use Rattle.sequence_reading.proofs.Places.{reached-bad, reached-end}
+use Rattle.sequence_reading.proofs.NumbersExactly.{reading-kept}
 use borrow.Author.Needs.{needs}
 use native.Mathlib.Omega.{arith}
 use Rattle.sequence_reading.proofs.read_sequence.Statement.{statement}
@@ -17,13 +18,13 @@ abbrev μ-loop : tie.MeasureT-loop
 μ-loop text at values₀ s₀ i₀ values s i = length text - i
 
 returns : tie.Need-returns Inv-loop μ-loop
-returns c = none-left _ _ (omega arith)
+returns c = reading-kept _ _ _ (none-left _ _ (omega arith))
 
 shared-slice-read-if2 : tie.Need-shared-slice-read-if2 Inv-loop μ-loop
 shared-slice-read-if2 c = search needs
 
 returns-2 : tie.Need-returns-2 Inv-loop μ-loop
-returns-2 c = no-sequence _ _ (omega arith) (omega arith)
+returns-2 c = reading-kept _ _ _ (no-sequence _ _ (omega arith) (omega arith))
 
 add-i : tie.Need-add-i Inv-loop μ-loop
 add-i c = search needs
@@ -64,8 +65,9 @@ returns-3 c =
     let at-step = at-n3 .before .before in
     let at-loop-test = at-step .before .before in
     let at-loop = at-loop-test .before in
-    reached-last _ _ _ _ _ (at-loop .loop .inv) (at-loop-test .loop-test .taken) _
-    (sym (at-step .step .ensures) ∙ at-n3 .n3 .given .1) (c .stored2 .ensures)
+    reading-kept _ _ _
+    (reached-last _ _ _ _ _ (at-loop .loop .inv) (at-loop-test .loop-test .taken) _
+    (sym (at-step .step .ensures) ∙ at-n3 .n3 .given .1) (c .stored2 .ensures))
 
 enum-known-n-4 : tie.Need-enum-known-n-4 Inv-loop μ-loop
 enum-known-n-4 c = search needs
@@ -75,8 +77,9 @@ returns-4 c =
     let at-step = c .before .before .before in
     let at-loop-test = at-step .before .before in
     let at-loop = at-loop-test .before in
-    reached-bad _ _ _ _ _ (at-loop .loop .inv) (at-loop-test .loop-test .taken) _
-    (sym (at-step .step .ensures) ∙ c .before .n4 .given .1)
+    reading-kept _ _ _
+    (reached-bad _ _ _ _ _ (at-loop .loop .inv) (at-loop-test .loop-test .taken) _
+    (sym (at-step .step .ensures) ∙ c .before .n4 .given .1))
 
 add-i-2 : tie.Need-add-i-2 Inv-loop μ-loop
 add-i-2 c = search needs
@@ -95,7 +98,7 @@ loop-again c =
     (c .match .came)
 
 returns-5 : tie.Need-returns-5 Inv-loop μ-loop
-returns-5 c = reached-end _ _ _ _ _ (c .before .loop .inv) (c .loop-test .left)
+returns-5 c = reading-kept _ _ _ (reached-end _ _ _ _ _ (c .before .loop .inv) (c .loop-test .left))
 
 pub read-sequence-spec : {M : Type 1} → statement M
 read-sequence-spec =

@@ -36,24 +36,24 @@ returns : tie.Need-returns
 returns c =
     let at-d = c .before .before in
     let at-kind-of = at-d .before .before in
-    c .digit-step .ensures ∙ sym (step-as _ _ _ (sym (at-kind-of .kind-of .ensures) ∙ at-d .d .given .1))
+    c .digit-step .ensures ∙ sym (step-as _ _ _ (sym (at-kind-of .kind-of .ensures .0) ∙ at-d .d .given .1))
 
 returns-2 : tie.Need-returns-2
 returns-2 c =
     let at-kind-of = c .before .before .before in
-    c .value-step .ensures ∙ sym (step-as _ _ _ (sym (at-kind-of .kind-of .ensures) ∙ c .before .enum-told .given .1))
+    c .value-step .ensures ∙ sym (step-as _ _ _ (sym (at-kind-of .kind-of .ensures .0) ∙ c .before .enum-told .given .1))
 
 returns-3 : tie.Need-returns-3
 returns-3 c =
     let at-i = c .before .before in
     let at-kind-of = at-i .before .before in
-    c .middle-step .ensures ∙ sym (step-as _ _ _ (sym (at-kind-of .kind-of .ensures) ∙ at-i .i .given .1))
+    c .middle-step .ensures ∙ sym (step-as _ _ _ (sym (at-kind-of .kind-of .ensures .0) ∙ at-i .i .given .1))
 
 returns-4 : tie.Need-returns-4
-returns-4 c = sym (step-as _ _ _ (sym (c .before .before .before .kind-of .ensures) ∙ c .before .f .given .1))
+returns-4 c = sym (step-as _ _ _ (sym (c .before .before .before .kind-of .ensures .0) ∙ c .before .f .given .1))
 
 returns-5 : tie.Need-returns-5
-returns-5 c = sym (step-as _ _ _ (sym (c .before .before .kind-of .ensures) ∙ c .enum-told2 .given .1))
+returns-5 c = sym (step-as _ _ _ (sym (c .before .before .kind-of .ensures .0) ∙ c .enum-told2 .given .1))
 
 pub step-spec : {M : Type 1} → statement M
 step-spec =

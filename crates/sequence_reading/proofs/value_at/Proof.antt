@@ -2,7 +2,7 @@
 use Prim.Native.Nat.{ℕ, _+_, _≤_}
 use mathlib.Core.Path.{_≡_, sym}
 use lib.ListN.{List·getD-eq-default}
-use Rattle.sequence_reading.specs.Reading.{listOf}
+use Rattle.sequence_reading.specs.EightValues.{listOf}
 use native.Mathlib.Omega.{arith}
 use borrow.Author.Needs.{needs}
 use Rattle.sequence_reading.proofs.value_at.Statement.{statement}

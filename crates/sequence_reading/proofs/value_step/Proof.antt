@@ -1,6 +1,6 @@
 -- A 3B that opens a ninth value (value-passes), and one that does not (value-within).
 use mathlib.Core.Path.{sym, ap, _∙_}
-use Rattle.sequence_reading.specs.Reading.{unlessLate}
+use Rattle.sequence_reading.specs.SequenceHead.{unlessLate}
 use Rattle.sequence_reading.proofs.Steps.{value-passes, value-within}
 use native.Mathlib.Omega.{arith}
 use borrow.Author.Needs.{needs}

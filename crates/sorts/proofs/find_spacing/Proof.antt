@@ -4,6 +4,7 @@ use mathlib.Core.Path.{sym, _∙_}
 use native.Mathlib.Omega.{arith}
 use borrow.Author.Needs.{needs}
 use Rattle.sorts.proofs.Spacings.{Left-spacing, spacing-start, spacing-on, spacing-hit, spacing-end, no-spacing-at-0}
+use Rattle.sorts.proofs.NumbersExactly.{spacing-kept}
 use Rattle.sorts.proofs.find_spacing.Statement.{statement}
 use Rattle.sorts.proofs.find_spacing.Tie as tie
 
@@ -14,7 +15,7 @@ abbrev μ-loop : tie.MeasureT-loop
 μ-loop c i₀ i = 96 - i
 
 returns : tie.Need-returns Inv-loop μ-loop
-returns c = no-spacing-at-0 _ (c .if1 .taken)
+returns c = spacing-kept _ _ (no-spacing-at-0 _ (c .if1 .taken))
 
 loop-holds : tie.Need-loop-holds Inv-loop μ-loop
 loop-holds c = (search needs, spacing-start _)
@@ -32,7 +33,8 @@ returns-2 : tie.Need-returns-2 Inv-loop μ-loop
 returns-2 c =
     let at-loop = c .before .before .before in
     let found = sym (c .before .upper-at .ensures) ∙ c .if2 .taken in
-    spacing-hit _ (at-loop .loop .i) (c .before .before .loop-test .taken) (at-loop .loop .inv .1) (at-loop .before .if1 .left) found
+    spacing-kept _ _
+    (spacing-hit _ (at-loop .loop .i) (c .before .before .loop-test .taken) (at-loop .loop .inv .1) (at-loop .before .if1 .left) found)
 
 add-i : tie.Need-add-i Inv-loop μ-loop
 add-i c = search needs
@@ -47,7 +49,7 @@ loop-again c =
     (omega arith, spacing-on _ (at-loop .loop .i) inside (at-loop .loop .inv .1) (λ e. c .if2 .left (c .before .upper-at .ensures ∙ e)))
 
 returns-3 : tie.Need-returns-3 Inv-loop μ-loop
-returns-3 c = spacing-end _ (c .before .loop .i) (omega arith) (c .before .loop .inv .1)
+returns-3 c = spacing-kept _ _ (spacing-end _ (c .before .loop .i) (omega arith) (c .before .loop .inv .1))
 
 pub find-spacing-spec : {M : Type 1} → statement M
 find-spacing-spec =

@@ -1,10 +1,12 @@
 -- `sortIn` of form 3, arm by arm: each is a test over the arm's octets (`at-keys`, `within`, `without`).
 use native.Mathlib.Omega.{arith}
-use mathlib.Core.Path.{refl, _∙_}
+use mathlib.Core.Path.{_≡_, refl, _∙_}
 use mathlib.Core.List.{List, [], _∷_}
-use Prim.Native.Nat.{ℕ}
-use Rattle.run.proofs.Range.{at-keys, within, without}
+use Prim.Native.Nat.{ℕ, _-_, _≤_, _<_}
+use Rattle.run.specs.Choice.{pick}
+use Rattle.run.proofs.Range.{Rest, single, listed, at-keys, within, without}
 use Rattle.sorts.specs.declared.Form.the-variants.{Basic}
+use Rattle.sorts.specs.declared.Sort.{Sort}
 use Rattle.sorts.specs.declared.Sort.the-variants.{Graphic, Mark, Underline, Control, SequenceStart, Refused}
 use Rattle.sorts.specs.Sorts.{sortIn, spacingOf}
 use borrow.Author.Needs.{needs}
@@ -16,6 +18,16 @@ abbrev singles : List (List ℕ)
 singles =
     (0xCC ∷ []) ∷ (0xAB ∷ []) ∷ (0xA5 ∷ []) ∷ (0xA6 ∷ []) ∷ (0xA4 ∷ []) ∷ (0x9B ∷ []) ∷ (0x5D ∷ 0x5F ∷ 0x7C ∷ []) ∷
     (0x5C ∷ 0x5E ∷ 0x60 ∷ 0x7B ∷ 0x7D ∷ []) ∷ (0x24 ∷ []) ∷ (0x19 ∷ 0x1B ∷ 0x1D ∷ []) ∷ (0x08 ∷ 0x0A ∷ 0x1A ∷ []) ∷ []
+
+-- an arm's octets, by the bounds that the code's own tests give
+between : (f : ℕ → Sort) {lo end o : ℕ} → lo ≤ o → o < end → listed f lo (end - lo) ≡ listed (sortIn Basic) lo (end - lo)
+    → f o ≡ sortIn Basic o
+between f {lo} {end} {o} h k t = within f (sortIn Basic) lo end t o h k
+
+-- the same of the last arm, but at the single numbers
+rest-between : (f : ℕ → Sort) {lo end o : ℕ} → Rest singles o → lo ≤ o → o < end
+    → listed (λ i. pick (single singles i) (sortIn Basic i) (f i)) lo (end - lo) ≡ listed (sortIn Basic) lo (end - lo) → f o ≡ sortIn Basic o
+rest-between f {lo} {end} {o} n h k t = without f (sortIn Basic) singles lo end t o n h k
 
 spacing-requires : tie.Need-spacing-requires
 spacing-requires c κs = search needs
@@ -141,8 +153,8 @@ returns-23 c =
 
 returns-24 : tie.Need-returns-24
 returns-24 c =
-    without (λ o. Refused 1) (sortIn Basic) singles 0x8D 0xA1 (unfold sortIn spacingOf in refl) _
-    (c .before .before .before .before .before .match .rest) (omega arith) (omega arith)
+    rest-between (λ o. Refused 1) (c .before .before .before .before .before .match .rest) (c .before .if10 .left) (c .if11 .taken)
+    (unfold sortIn spacingOf in refl)
 
 returns-25 : tie.Need-returns-25
 returns-25 c =
@@ -180,7 +192,7 @@ returns-35 : tie.Need-returns-35
 returns-35 c = within (λ o. Control) (sortIn Basic) 0x0C 0x0E (unfold sortIn spacingOf in refl) _ (omega arith) (omega arith)
 
 returns-36 : tie.Need-returns-36
-returns-36 c = within (λ o. Control) (sortIn Basic) 0x8B 0x8D (unfold sortIn spacingOf in refl) _ (omega arith) (omega arith)
+returns-36 c = between (λ o. Control) (c .before .if9 .left) (c .if10 .taken) (unfold sortIn spacingOf in refl)
 
 pub sort-basic-spec : {M : Type 1} → statement M
 sort-basic-spec =

@@ -3,6 +3,7 @@ use mathlib.Core.Path.{_∙_, ap, sym}
 use Rattle.sorts.specs.declared.Form.{Form}
 use Rattle.sorts.specs.Sorts.{sortIn}
 use borrow.Author.Needs.{needs}
+use Rattle.sorts.proofs.NumbersExactly.{sort-kept}
 use Rattle.sorts.proofs.sort_in.Statement.{statement}
 use Rattle.sorts.proofs.sort_in.Tie as tie
 
@@ -26,15 +27,18 @@ sort-basic-requires c κs = search needs
 
 returns : tie.Need-returns
 returns c =
-    c .sort-eight .ensures ∙ ap (λ (f : Form). sortIn f (c .before .before .before .args .octet)) (sym (c .before .enum-told .given .1))
+    sort-kept _ _ _
+    (c .sort-eight .ensures ∙ ap (λ (f : Form). sortIn f (c .before .before .before .args .octet)) (sym (c .before .enum-told .given .1)))
 
 returns-2 : tie.Need-returns-2
 returns-2 c =
-    c .sort-seven .ensures ∙ ap (λ (f : Form). sortIn f (c .before .before .before .args .octet)) (sym (c .before .enum-told2 .given .1))
+    sort-kept _ _ _
+    (c .sort-seven .ensures ∙ ap (λ (f : Form). sortIn f (c .before .before .before .args .octet)) (sym (c .before .enum-told2 .given .1)))
 
 returns-3 : tie.Need-returns-3
 returns-3 c =
-    c .sort-basic .ensures ∙ ap (λ (f : Form). sortIn f (c .before .before .before .args .octet)) (sym (c .before .enum-told3 .given .1))
+    sort-kept _ _ _
+    (c .sort-basic .ensures ∙ ap (λ (f : Form). sortIn f (c .before .before .before .args .octet)) (sym (c .before .enum-told3 .given .1)))
 
 pub sort-in-spec : {M : Type 1} → statement M
 sort-in-spec =

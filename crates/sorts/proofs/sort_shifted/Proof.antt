@@ -3,6 +3,7 @@ use mathlib.Core.Path.{_∙_, ap, sym}
 use Rattle.sorts.specs.declared.Form.{Form}
 use Rattle.sorts.specs.Sorts.{shiftedIn}
 use borrow.Author.Needs.{needs}
+use Rattle.sorts.proofs.NumbersExactly.{shifted-kept}
 use Rattle.sorts.proofs.sort_shifted.Statement.{statement}
 use Rattle.sorts.proofs.sort_shifted.Tie as tie
 
@@ -20,16 +21,20 @@ enum-told-3 c = search needs
 
 returns : tie.Need-returns
 unfolding shiftedIn
-returns c = ap (λ (f : Form). shiftedIn f (c .before .before .args .octet)) (sym (c .enum-told .given .1))
+returns c =
+    let a = c .before .before .args in
+    shifted-kept (a .form) (a .octet) _ (ap (λ (f : Form). shiftedIn f (a .octet)) (sym (c .enum-told .given .1)))
 
 returns-2 : tie.Need-returns-2
 returns-2 c =
-    c .shifted-seven .ensures ∙ ap (λ (f : Form). shiftedIn f (c .before .before .before .args .octet))
-    (sym (c .before .enum-told2 .given .1))
+    shifted-kept _ _ _ (c .shifted-seven .ensures ∙ ap (λ (f : Form). shiftedIn f (c .before .before .before .args .octet))
+    (sym (c .before .enum-told2 .given .1)))
 
 returns-3 : tie.Need-returns-3
 unfolding shiftedIn
-returns-3 c = ap (λ (f : Form). shiftedIn f (c .before .before .args .octet)) (sym (c .enum-told3 .given .1))
+returns-3 c =
+    let a = c .before .before .args in
+    shifted-kept (a .form) (a .octet) _ (ap (λ (f : Form). shiftedIn f (a .octet)) (sym (c .enum-told3 .given .1)))
 
 pub sort-shifted-spec : {M : Type 1} → statement M
 sort-shifted-spec =

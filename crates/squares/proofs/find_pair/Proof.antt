@@ -1,10 +1,11 @@
--- The search keeps that what is left of the table has the answer (`Left-pair`), and ends by `pair-hit` or `pair-end`.
+-- The search keeps that what is left of the table has the answer (`Left-pair`), and ends by `pair-here` or `pair-end`.
 use Rattle.squares.specs.Squares.{squareTable}
 use Prim.Native.Nat.{_≤_, _-_, _/_, _%_}
 use mathlib.Core.Path.{refl, sym, _∙_}
 use native.Mathlib.Omega.{arith}
 use borrow.Author.Needs.{needs}
-use Rattle.squares.proofs.Pairs.{entry-of, Left-pair, pair-start, pair-on, pair-hit, pair-end, no-pair-at-0}
+use Rattle.squares.proofs.Pairs.{entry-of, Left-pair, pair-start, pair-on, pair-here, pair-end, no-pair-at-0}
+use Rattle.squares.proofs.NumbersExactly.{pair-kept}
 use Rattle.squares.proofs.find_pair.Statement.{statement}
 use Rattle.squares.proofs.find_pair.Tie as tie
 
@@ -15,7 +16,7 @@ abbrev μ-loop : tie.MeasureT-loop
 μ-loop c table i₀ i = 689 - i
 
 returns : tie.Need-returns Inv-loop μ-loop
-returns c = no-pair-at-0 _ (c .if1 .taken)
+returns c = pair-kept _ _ (no-pair-at-0 _ (c .if1 .taken))
 
 loop-holds : tie.Need-loop-holds Inv-loop μ-loop
 loop-holds c = (search needs, pair-start _)
@@ -33,7 +34,8 @@ returns-2 c =
     let i = at-loop .loop .i in
     let inside = c .before .before .before .before .loop-test .taken in
     let entry = entry-of _ (i / 53) (i % 53) refl (c .before .before .square-in .ensures) in
-    c .pair-at .ensures ∙ pair-hit _ i inside (at-loop .loop .inv .1) (at-loop .before .if1 .left) (sym entry ∙ c .before .if2 .taken)
+    pair-kept _ _
+    (c .pair-at .ensures ∙ pair-here _ i inside (at-loop .loop .inv .1) (at-loop .before .if1 .left) (sym entry ∙ c .before .if2 .taken))
 
 add-i : tie.Need-add-i Inv-loop μ-loop
 add-i c = search needs
@@ -51,7 +53,7 @@ loop-again c =
     (omega arith, pair-on _ i inside (at-loop .loop .inv .1) (λ e. c .if2 .left (entry ∙ e)))
 
 returns-3 : tie.Need-returns-3 Inv-loop μ-loop
-returns-3 c = pair-end _ (c .before .loop .i) (omega arith) (c .before .loop .inv .1)
+returns-3 c = pair-kept _ _ (pair-end _ (c .before .loop .i) (omega arith) (c .before .loop .inv .1))
 
 pub find-pair-spec : {M : Type 1} → statement M
 find-pair-spec =

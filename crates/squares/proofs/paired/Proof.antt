@@ -2,6 +2,7 @@
 use Rattle.squares.specs.Squares.{squareTable}
 use mathlib.Core.Path.{refl}
 use Rattle.squares.proofs.Pairs.{entry-of, empty, filled}
+use Rattle.squares.proofs.NumbersExactly.{paired-kept}
 use borrow.Author.Needs.{needs}
 use Rattle.squares.proofs.paired.Statement.{statement}
 use Rattle.squares.proofs.paired.Tie as tie
@@ -21,7 +22,7 @@ returns c =
     let row = c .before .before .before .row-of in
     let column = c .before .before .column-of in
     let entry = entry-of _ (row .result) (column .result) refl (c .before .square-in .ensures) in
-    empty _ _ _ _ _ (row .ensures) (column .ensures) entry (search needs) (search needs) (c .if1 .taken)
+    paired-kept _ _ _ (empty _ _ _ _ _ (row .ensures) (column .ensures) entry (search needs) (search needs) (c .if1 .taken))
 
 returns-2 : tie.Need-returns-2
 unfolding squareTable
@@ -29,7 +30,7 @@ returns-2 c =
     let row = c .before .before .before .row-of in
     let column = c .before .before .column-of in
     let entry = entry-of _ (row .result) (column .result) refl (c .before .square-in .ensures) in
-    filled _ _ _ _ _ (row .ensures) (column .ensures) entry (search needs) (search needs) (c .if1 .left)
+    paired-kept _ _ _ (filled _ _ _ _ _ (row .ensures) (column .ensures) entry (search needs) (search needs) (c .if1 .left))
 
 pub paired-spec : {M : Type 1} → statement M
 paired-spec =

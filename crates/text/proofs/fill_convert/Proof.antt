@@ -5,13 +5,14 @@ use mathlib.Core.Path.{sym, _∙_}
 use native.Mathlib.Omega.{arith}
 use lib.ListN.{length, drop}
 use borrow.Author.Needs.{needs}
+use Rattle.run.specs.Loops.{Filled}
 use Rattle.run.specs.Answers.{same}
-use Rattle.run.proofs.Loops.{Filled}
 use Rattle.run.proofs.Puts.{put-length}
 use Rattle.run.proofs.SpeltLoops.{fill-spelt-start, fill-spelt-end, fill-spelt-never, fill-spelt-onward, fill-spelt-turn}
 use Rattle.element_reading.proofs.Reader.{reads}
-use Rattle.element_reading.specs.Reading.{headIn}
-use Rattle.text_reading.proofs.Steps.{Here, here, step-refused}
+use Rattle.element_reading.specs.ElementHead.{headIn}
+use Rattle.text_reading.specs.LawWords.{HereStands}
+use Rattle.text_reading.proofs.Steps.{here, step-refused}
 use Rattle.element_spelling.specs.ElementOctets.{spellElement}
 use Rattle.text.specs.Outcomes.{respellHead}
 use Rattle.element_spelling.proofs.SpeltSizes.{spelt-short}
@@ -29,7 +30,7 @@ found : (c : tie.After-step Inv-loop μ-loop) →
     let at = c .before .before .before .before in
     let a = at .before .before .before .args in
     let x = c .step .given .0 in
-    Here (headIn (a .source) (drop (at .loop .at) (a .text .now))) (at .loop .at) (x .0) (x .1 .0)
+    HereStands (headIn (a .source) (drop (at .loop .at) (a .text .now))) (at .loop .at) (x .0) (x .1 .0)
 found c = here _ _ _ _ _ (sym (c .before .before .step-in .ensures) ∙ c .step .given .1)
 
 loop-holds : tie.Need-loop-holds Inv-loop μ-loop

@@ -5,13 +5,13 @@ use mathlib.Core.Path.{sym, _∙_}
 use native.Mathlib.Omega.{arith}
 use lib.ListN.{length, drop}
 use borrow.Author.Needs.{needs}
+use Rattle.run.specs.Loops.{Filled}
 use Rattle.run.specs.Answers.{same}
-use Rattle.run.proofs.Loops.{Filled}
 use Rattle.run.proofs.Puts.{put-length}
 use Rattle.run.proofs.SpeltLoops.{fill-spelt-start, fill-spelt-end, fill-spelt-never, fill-spelt-onward, fill-spelt-turn}
 use Rattle.element_words.specs.Words.{wordHead}
 use Rattle.element_words.proofs.Words.{words-read}
-use Rattle.text_reading.proofs.Steps.{Here}
+use Rattle.text_reading.specs.LawWords.{HereStands}
 use Rattle.element_spelling.specs.ElementOctets.{spellElement, spellHead}
 use Rattle.element_spelling.proofs.SpeltSizes.{spelt-short}
 use Rattle.text.proofs.Places.{word-here, no-word-here}
@@ -29,8 +29,8 @@ word : (c : tie.After-meant Inv-loop μ-loop) →
     let at = c .before .before .before .before in
     let words = at .before .before .before .args .words .now in
     let x = c .meant .given .0 in
-    Here (wordHead (drop (at .loop .at) words)) (at .loop .at) (x .0) (x .1 .0)
-word c = word-here _ _ _ _ (sym (c .before .before .element-of .ensures) ∙ c .meant .given .1)
+    HereStands (wordHead (drop (at .loop .at) words)) (at .loop .at) (x .0) (x .1 .0)
+word c = word-here _ _ _ _ (sym (c .before .before .element-of .ensures .0) ∙ c .meant .given .1)
 
 loop-holds : tie.Need-loop-holds Inv-loop μ-loop
 loop-holds c =
@@ -51,7 +51,7 @@ returns c =
     let at = c .before .before .before in
     let start = at .before .before .before in
     let a = start .args in
-    let q = no-word-here (a .words .now) _ (c .before .before .loop-test .taken) _ (c .before .element-of .ensures) (c .match .keys2) in
+    let q = no-word-here (a .words .now) _ (c .before .before .loop-test .taken) _ (c .before .element-of .ensures .0) (c .match .keys2) in
     absurd (fill-spelt-never words-read (spellElement (a .form)) (spelt-short (a .form)) _ _ (start .pre) (at .loop .inv) q)
 
 put-spelling-requires : tie.Need-put-spelling-requires Inv-loop μ-loop

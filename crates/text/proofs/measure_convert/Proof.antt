@@ -5,12 +5,13 @@ use mathlib.Core.Path.{refl, sym, _∙_}
 use native.Mathlib.Omega.{arith}
 use lib.ListN.{length, drop}
 use borrow.Author.Needs.{needs}
+use Rattle.run.specs.Loops.{Counted}
 use Rattle.run.specs.Answers.{same}
-use Rattle.run.proofs.Loops.{Counted}
 use Rattle.run.proofs.SpeltLoops.{spelt-start, spelt-small, spelt-end, spelt-stop, spelt-ten, spelt-onward, spelt-turn}
 use Rattle.element_reading.proofs.Reader.{reads}
-use Rattle.element_reading.specs.Reading.{headIn}
-use Rattle.text_reading.proofs.Steps.{Here, here, step-refused}
+use Rattle.element_reading.specs.ElementHead.{headIn}
+use Rattle.text_reading.specs.LawWords.{HereStands}
+use Rattle.text_reading.proofs.Steps.{here, step-refused}
 use Rattle.element_spelling.specs.ElementOctets.{spellElement}
 use Rattle.text.specs.Outcomes.{respellHead}
 use Rattle.element_spelling.proofs.SpeltSizes.{spelt-short}
@@ -28,7 +29,7 @@ found : (c : tie.After-step Inv-loop μ-loop) →
     let at = c .before .before .before .before in
     let a = at .before .before .args in
     let x = c .step .given .0 in
-    Here (headIn (a .source) (drop (at .loop .at) (a .text .now))) (at .loop .at) (x .0) (x .1 .0)
+    HereStands (headIn (a .source) (drop (at .loop .at) (a .text .now))) (at .loop .at) (x .0) (x .1 .0)
 found c = here _ _ _ _ _ (sym (c .before .before .step-in .ensures) ∙ c .step .given .1)
 
 loop-holds : tie.Need-loop-holds Inv-loop μ-loop

@@ -5,12 +5,12 @@ use mathlib.Core.Path.{refl, sym, _∙_}
 use native.Mathlib.Omega.{arith}
 use lib.ListN.{length, drop}
 use borrow.Author.Needs.{needs}
+use Rattle.run.specs.Loops.{Counted}
 use Rattle.run.specs.Answers.{same}
-use Rattle.run.proofs.Loops.{Counted}
 use Rattle.run.proofs.SpeltLoops.{spelt-start, spelt-small, spelt-end, spelt-stop, spelt-ten, spelt-onward, spelt-turn}
 use Rattle.element_words.specs.Words.{wordHead}
 use Rattle.element_words.proofs.Words.{words-read}
-use Rattle.text_reading.proofs.Steps.{Here}
+use Rattle.text_reading.specs.LawWords.{HereStands}
 use Rattle.element_spelling.specs.ElementOctets.{spellElement, spellHead}
 use Rattle.element_spelling.proofs.SpeltSizes.{spelt-short}
 use Rattle.text.proofs.Places.{word-here, no-word-here}
@@ -28,8 +28,8 @@ word : (c : tie.After-meant Inv-loop μ-loop) →
     let at = c .before .before .before .before in
     let words = at .before .before .args .words .now in
     let x = c .meant .given .0 in
-    Here (wordHead (drop (at .loop .at) words)) (at .loop .at) (x .0) (x .1 .0)
-word c = word-here _ _ _ _ (sym (c .before .before .element-of .ensures) ∙ c .meant .given .1)
+    HereStands (wordHead (drop (at .loop .at) words)) (at .loop .at) (x .0) (x .1 .0)
+word c = word-here _ _ _ _ (sym (c .before .before .element-of .ensures .0) ∙ c .meant .given .1)
 
 loop-holds : tie.Need-loop-holds Inv-loop μ-loop
 loop-holds c = let a = c .before .args in spelt-start words-read (spellElement (a .form)) (spelt-short (a .form)) (a .words .now)
@@ -50,7 +50,7 @@ returns c =
     let s6 = s4 .before .before in
     let a = s6 .args in
     let i = s4 .loop in
-    let q = no-word-here (a .words .now) _ (s3 .loop-test .taken) _ (c .before .before .element-of .ensures) (c .before .match .keys2) in
+    let q = no-word-here (a .words .now) _ (s3 .loop-test .taken) _ (c .before .before .element-of .ensures .0) (c .before .match .keys2) in
     c .not-held .ensures ∙ spelt-stop words-read (spellElement (a .form)) (spelt-short (a .form)) (a .words .now) (i .inv) q refl
 
 spelt-size-requires : tie.Need-spelt-size-requires Inv-loop μ-loop

@@ -5,13 +5,15 @@ use mathlib.Core.Path.{sym, _∙_}
 use native.Mathlib.Omega.{arith}
 use lib.ListN.{length, drop, set}
 use borrow.Author.Needs.{needs}
-use Rattle.run.proofs.Loops.{Filled, fill-start, fill-small, fill-onward, fill-room, fill-turn, fill-end}
+use Rattle.run.specs.Loops.{Filled}
+use Rattle.run.proofs.Loops.{fill-start, fill-small, fill-onward, fill-room, fill-turn, fill-end}
 use Rattle.run.proofs.Puts.{put-length, put-fits}
 use Rattle.element_words.specs.Words.{wordsOf}
-use Rattle.element_reading.specs.Reading.{headIn}
+use Rattle.element_reading.specs.ElementHead.{headIn}
 use Rattle.element_reading.proofs.Reader.{reads}
 use Rattle.text_reading.proofs.ReadTexts.{few-words}
-use Rattle.text_reading.proofs.Steps.{Here, here, read-never}
+use Rattle.text_reading.specs.LawWords.{HereStands}
+use Rattle.text_reading.proofs.Steps.{here, read-never}
 use Rattle.text_reading.proofs.RunsAndPairs.{room-for-run, filled-run, room-for-pair, filled-pair}
 use Rattle.text_reading.proofs.fill_read.Statement.{statement}
 use Rattle.text_reading.proofs.fill_read.Tie as tie
@@ -81,8 +83,8 @@ found : (c : tie.After-step Inv-loop μ-loop) →
     let a = run .before .before .before .before .before .before .before .before .args in
     let at = run .before .before .before .before .before .loop .at + run .before .before .put-run .result in
     let x = c .step .given .0 in
-    Here (headIn (a .form) (drop at (a .text .now))) at (x .0) (x .1 .0)
-found c = here _ _ _ _ _ (sym (c .before .before .element-at .ensures) ∙ c .step .given .1)
+    HereStands (headIn (a .form) (drop at (a .text .now))) at (x .0) (x .1 .0)
+found c = here _ _ _ _ _ (sym (c .before .before .element-at .ensures .0) ∙ c .step .given .1)
 
 loop-holds : tie.Need-loop-holds Inv-loop μ-loop
 loop-holds c = let a = c .before .before .args in fill-start (reads (a .form)) (few-words (a .form)) (a .text .now) (a .words .now)
@@ -145,7 +147,7 @@ returns c =
     let p = s14 .pre in
     let was = after-run (s6) in
     let x = c .before .element-at in
-    absurd (read-never (a .form) (a .text .now) (a .words .now) (p .1) _ was (x .ensures) (c .match .keys2) (s4 .if2 .taken))
+    absurd (read-never (a .form) (a .text .now) (a .words .now) (p .1) _ was (x .ensures .0) (c .match .keys2) (s4 .if2 .taken))
 
 put-words-requires : tie.Need-put-words-requires Inv-loop μ-loop
 put-words-requires c κs = search needs

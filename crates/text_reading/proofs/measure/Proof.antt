@@ -11,7 +11,7 @@ use Rattle.text_reading.proofs.measure.Tie as tie
 
 -- the form is known
 is-form : (c : tie.After-found) → formOf (c .before .before .before .before .args .form) ≡ Is (c .found .given .0 .0)
-is-form c = sym (c .before .before .form-of .ensures) ∙ c .found .given .1
+is-form c = sym (c .before .before .form-of .ensures .0) ∙ c .found .given .1
 
 form-of-requires : tie.Need-form-of-requires
 form-of-requires c κs = search needs
@@ -27,7 +27,7 @@ bare-answer-requires c κs = search needs
 
 returns : tie.Need-returns
 unfolding readAnswer
-returns c = c .bare-answer .ensures ∙ no-form _ _ _ (sym (c .before .before .before .form-of .ensures) ∙ c .before .enum-told .given .1)
+returns c = c .bare-answer .ensures ∙ no-form _ _ _ (sym (c .before .before .before .form-of .ensures .0) ∙ c .before .enum-told .given .1)
 
 bare-answer-requires-2 : tie.Need-bare-answer-requires-2
 bare-answer-requires-2 c κs = search needs

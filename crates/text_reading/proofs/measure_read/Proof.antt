@@ -5,13 +5,15 @@ use mathlib.Core.Path.{sym, _∙_}
 use native.Mathlib.Omega.{arith}
 use lib.ListN.{length, drop}
 use borrow.Author.Needs.{needs}
-use Rattle.run.proofs.Loops.{Counted, count-start, count-small, count-onward, count-turn, count-end}
+use Rattle.run.specs.Loops.{Counted}
+use Rattle.run.proofs.Loops.{count-start, count-small, count-onward, count-turn, count-end}
 use Rattle.element_words.specs.Words.{wordsOf}
-use Rattle.element_reading.specs.Reading.{headIn}
+use Rattle.element_reading.specs.ElementHead.{headIn}
 use Rattle.element_reading.proofs.Reader.{reads}
 use Rattle.element_words.proofs.Words.{words-short}
 use Rattle.text_reading.proofs.ReadTexts.{few-words}
-use Rattle.text_reading.proofs.Steps.{Here, here, read-stop}
+use Rattle.text_reading.specs.LawWords.{HereStands}
+use Rattle.text_reading.proofs.Steps.{here, read-stop}
 use Rattle.text_reading.proofs.RunsAndPairs.{behind-run, behind-pair}
 use Rattle.text_reading.proofs.measure_read.Statement.{statement}
 use Rattle.text_reading.proofs.measure_read.Tie as tie
@@ -73,12 +75,14 @@ Element-here c =
     let s13 = s11 .before .before in
     let a = s13 .args in
     let at = s11 .loop .at + s9 .spacing-run .result in
-    Here (headIn (a .form) (drop at (a .text .now))) at (c .before .before .step .given .0 .0) (c .before .before .step .given .0 .1 .0)
+    let x = c .before .before .step .given .0 in
+    HereStands (headIn (a .form) (drop at (a .text .now))) at (x .0) (x .1 .0)
 
 the-element : (c : tie.After-words-in Inv-loop μ-loop) → Element-here c
 the-element c =
     let a = c .before .before .before .before .before .before .before .before .before .before .before .before .before .args in
-    here (a .form) (a .text .now) _ _ _ (sym (c .before .before .before .before .element-at .ensures) ∙ c .before .before .step .given .1)
+    here (a .form) (a .text .now) _ _ _
+    (sym (c .before .before .before .before .element-at .ensures .0) ∙ c .before .before .step .given .1)
 
 loop-holds : tie.Need-loop-holds Inv-loop μ-loop
 loop-holds c = let a = c .before .args in count-start (reads (a .form)) (few-words (a .form)) (a .text .now)
@@ -136,7 +140,7 @@ returns c =
     let a = s11 .args in
     let was = after-run (s7) in
     let x = c .before .before .element-at in
-    c .step-answer .ensures ∙ read-stop (a .form) (a .text .now) _ was (x .ensures) (c .before .match .keys2) (s5 .if2 .taken)
+    c .step-answer .ensures ∙ read-stop (a .form) (a .text .now) _ was (x .ensures .0) (c .before .match .keys2) (s5 .if2 .taken)
 
 add-n-3 : tie.Need-add-n-3 Inv-loop μ-loop
 add-n-3 c =

@@ -10,7 +10,7 @@ use Rattle.text_reading.proofs.read.Tie as tie
 
 -- the form is known
 is-form : (c : tie.After-found) → formOf (c .before .before .before .before .before .args .form) ≡ Is (c .found .given .0 .0)
-is-form c = sym (c .before .before .form-of .ensures) ∙ c .found .given .1
+is-form c = sym (c .before .before .form-of .ensures .0) ∙ c .found .given .1
 
 form-of-requires : tie.Need-form-of-requires
 form-of-requires c κs = search needs
@@ -29,7 +29,7 @@ unfolding readAnswer readWords
 returns c =
     let form = c .before .before .before in
     let a = form .before .before .before .args in
-    asked-none _ (a .text .now) _ _ _ (c .bare-answer .ensures) (sym (form .form-of .ensures) ∙ c .before .enum-told .given .1)
+    asked-none _ (a .text .now) _ _ _ (c .bare-answer .ensures) (sym (form .form-of .ensures .0) ∙ c .before .enum-told .given .1)
 
 bare-answer-requires-2 : tie.Need-bare-answer-requires-2
 bare-answer-requires-2 c κs = search needs

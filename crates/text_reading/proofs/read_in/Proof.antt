@@ -1,5 +1,6 @@
 -- The first pass's answer is the whole answer where it refuses (refuses), where the room is short (short), and where there is room (roomy).
 use mathlib.Core.Path.{_∙_}
+use native.Mathlib.Omega.{arith}
 use Rattle.run.proofs.Rooms.{numbered, refuses, short, roomy}
 use Rattle.element_words.specs.Words.{wordsOf}
 use Rattle.element_reading.proofs.Reader.{reads}
@@ -20,7 +21,8 @@ measure-read-requires c κs = search needs
 returns : tie.Need-returns
 returns c =
     let a = c .before .before .before .before .before .before .before .before .before .args in
-    refuses wordsOf _ (a .words .now) _ (readIn (a .form) (a .text .now)) (c .before .before .measure-read .ensures) (c .if1 .taken)
+    refuses wordsOf _ (a .words .now) _ (readIn (a .form) (a .text .now)) (c .before .before .measure-read .ensures)
+    (λ z. omega (arith, z, c .if1 .taken))
 
 short-room-requires : tie.Need-short-room-requires
 short-room-requires c κs = search needs
@@ -34,7 +36,8 @@ returns-2 c =
     let m = s5 .measure-read in
     let x = readIn (a .form) (a .text .now) in
     let e =
-    short wordsOf _ (a .words .now) _ x (numbered (reads (a .form)) (a .text .now)) (m .ensures) (s3 .if1 .left) (c .before .if2 .taken) in
+    short wordsOf _ (a .words .now) _ x (numbered (reads (a .form)) (a .text .now)) (m .ensures) (omega (arith, s3 .if1 .left))
+    (c .before .if2 .taken) in
     (c .short-room .ensures ∙ e .0, e .1)
 
 fill-read-requires : tie.Need-fill-read-requires
@@ -48,7 +51,9 @@ fill-read-requires c κs =
     let a = s14 .args in
     let m = s7 .measure-read in
     let x = readIn (a .form) (a .text .now) in
-    let e = roomy wordsOf _ (a .words .now) _ x (numbered (reads (a .form)) (a .text .now)) (m .ensures) (s5 .if1 .left) (s3 .if2 .left) in
+    let e =
+    roomy wordsOf _ (a .words .now) _ x (numbered (reads (a .form)) (a .text .now)) (m .ensures) (omega (arith, s5 .if1 .left))
+    (s3 .if2 .left) in
     ((s11 .code-table .ensures, s10 .square-table .ensures), e .0)
 
 same-length : tie.Need-same-length
@@ -63,7 +68,9 @@ returns-3 c =
     let a = s17 .args in
     let m = s10 .measure-read in
     let x = readIn (a .form) (a .text .now) in
-    let e = roomy wordsOf _ (a .words .now) _ x (numbered (reads (a .form)) (a .text .now)) (m .ensures) (s8 .if1 .left) (s6 .if2 .left) in
+    let e =
+    roomy wordsOf _ (a .words .now) _ x (numbered (reads (a .form)) (a .text .now)) (m .ensures) (omega (arith, s8 .if1 .left))
+    (s6 .if2 .left) in
     (e .1, c .before .before .fill-read .ensures)
 
 pub read-in-spec : {M : Type 1} → statement M

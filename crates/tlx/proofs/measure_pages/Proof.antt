@@ -50,13 +50,16 @@ add-end : tie.Need-add-end Inv-loop μ-loop
 add-end c = omega (arith, measured-small (c .before .before .loop .inv), c .number-at .ensures .1)
 
 sub-measure : tie.Need-sub-measure Inv-loop μ-loop
-sub-measure c = search needs
+sub-measure c =
+    omega (arith, read-inside (c .before .before .loop .inv .read) (c .before .loop-test .taken) (c .number-at .ensures))
 
 part-measure-start : tie.Need-part-measure-start Inv-loop μ-loop
-part-measure-start c = search needs
+part-measure-start c =
+    omega (arith, read-inside (c .before .before .loop .inv .read) (c .before .loop-test .taken) (c .number-at .ensures))
 
 part-measure-end : tie.Need-part-measure-end Inv-loop μ-loop
-part-measure-end c = read-inside (c .before .before .loop .inv .read) (c .before .loop-test .taken) (c .number-at .ensures)
+part-measure-end c =
+    omega (arith, read-inside (c .before .before .loop .inv .read) (c .before .loop-test .taken) (c .number-at .ensures))
 
 measure-requires : tie.Need-measure-requires Inv-loop μ-loop
 measure-requires c κs = search needs

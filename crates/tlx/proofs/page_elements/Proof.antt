@@ -1,12 +1,21 @@
--- `page_elements` meets its contract: the page stands where the lengths before it end (`page-is`), and is answered as a text (`the-page`).
+-- `page_elements` meets its contract: the page stands where the lengths before it end (`page-is`), and is answered as a text (`the-page`);
+-- what is answered is its row of the table (`page-row`).
 use Prim.Native.Nat.{ℕ, _+_, _*_, _≤_}
-use mathlib.Core.Path.{_≡_, sym, ap, _∙_}
+use mathlib.Core.Path.{_≡_, sym, ap, subst, _∙_}
+use mathlib.Core.List.{List}
 use native.Mathlib.Omega.{arith}
 use lib.ListN.{length}
 use borrow.Author.Needs.{needs}
 use Rattle.case_table.specs.declared.Header.the-variants.{Pages}
 use Rattle.case_table.specs.Check.{headerOf}
-use Rattle.case_table.proofs.PagePlaces.{Right, right-header, totalBefore, summed-before, page-inside}
+use Rattle.case_table.specs.Grammar.{Octets}
+use Rattle.case_table.specs.PagePlaces.{Right, totalBefore}
+use Rattle.case_table.proofs.PagePlaces.{right-header, summed-before, page-inside}
+use Rattle.tlx.specs.declared.Page.{Page}
+use Rattle.tlx.specs.CaseReading.{pageAnswer}
+use Rattle.tlx.specs.CaseReadingNumbers.{pageValues, PageTable}
+use Rattle.tlx.specs.Promises.{PageElementsPromise}
+use Rattle.tlx.proofs.EachPage.{page-row}
 use Rattle.tlx.proofs.OnePage.{turned-page, no-page, the-page}
 use Rattle.tlx.proofs.page_elements.Statement.{statement}
 use Rattle.tlx.proofs.page_elements.Tie as tie
@@ -23,11 +32,19 @@ bare-answer-requires c κs = search needs
 enum-known-header-2 : tie.Need-enum-known-header-2
 enum-known-header-2 c = search needs
 
+-- what is the answer is its row
+promised : (case : List ℕ) (page : ℕ) (r : Page) → Octets case → r ≡ pageAnswer case page → PageElementsPromise case page r
+promised case page r o e = (e, subst (λ (x : Page). PageTable case page (pageValues x)) (sym e) (page-row case o page), o)
+
+-- the entries of the case are octets
+octets : (c : tie.After-header-of) → Octets (c .before .before .args .case .now)
+octets c = c .header-of .ensures .2
+
 -- header and table are right
 the-header : (c : tie.After-known-told2) →
     let told = c .before .header2 .given .0 in
     headerOf (c .before .before .before .before .before .args .case .now) ≡ Pages (told .0) (told .1 .0)
-the-header c = sym (c .before .before .before .header-of .ensures) ∙ c .before .header2 .given .1
+the-header c = sym (c .before .before .before .header-of .ensures .0) ∙ c .before .header2 .given .1
 
 right : (c : tie.After-known-told2) →
     let told = c .before .header2 .given .0 in
@@ -56,7 +73,8 @@ inside c =
     page-inside (right (few .before)) (few .if1 .left) (begins (c .before)) (c .number-at .ensures .0)
 
 returns : tie.Need-returns
-returns c = no-page _ _ _ _ (the-header (c .before)) (c .if1 .taken)
+returns c =
+    promised _ _ _ (octets (c .before .before .before .before)) (no-page _ _ _ _ (the-header (c .before)) (c .if1 .taken))
 
 mul-start : tie.Need-mul-start
 mul-start c = omega (arith, right (c .before) .few)
@@ -106,14 +124,16 @@ measure-requires c κs = search needs
 returns-2 : tie.Need-returns-2
 returns-2 c =
     let h = c .before .before in
-    turned-page _ _ _ _ (sym (h .before .before .header-of .ensures) ∙ h .header .given .1) (c .bare-answer .ensures)
+    let o = h .before .before in
+    promised _ _ _ (octets o) (turned-page _ _ _ _ (sym (o .header-of .ensures .0) ∙ h .header .given .1) (c .bare-answer .ensures))
 
 returns-3 : tie.Need-returns-3
 returns-3 c =
     let num = c .before .before in
     let few = num .before .before .before in
-    the-page _ _ _ _ (the-header (few .before)) _ _ (few .if1 .left) (begins (num .before)) (num .number-at .ensures .0) _
-    (c .measure .ensures)
+    promised _ _ _ (octets (few .before .before .before .before))
+    (the-page _ _ _ _ (the-header (few .before)) _ _ (few .if1 .left) (begins (num .before)) (num .number-at .ensures .0) _
+    (c .measure .ensures))
 
 pub page-elements-spec : {M : Type 1} → statement M
 page-elements-spec =

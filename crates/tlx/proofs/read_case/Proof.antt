@@ -1,7 +1,8 @@
--- `read_case` meets its contract: a refused header is the case's answer (`turned-answers`), and else the pages are read.
+-- `read_case` meets its contract: a refused header is the case's answer (`turned-answers`), and else the pages are read; that the entries
+-- are octets is what `header_of` ensures.
 use mathlib.Core.Path.{sym, ap, _∙_}
 use borrow.Author.Needs.{needs}
-use Rattle.tlx.specs.CaseReading.{beside}
+use Rattle.tlx.specs.CaseReadingNumbers.{beside}
 use Rattle.tlx.proofs.Rooms.{turned-answers}
 use Rattle.tlx.proofs.read_case.Statement.{statement}
 use Rattle.tlx.proofs.read_case.Tie as tie
@@ -19,14 +20,15 @@ enum-known-header-2 : tie.Need-enum-known-header-2
 enum-known-header-2 c = search needs
 
 read-pages-requires : tie.Need-read-pages-requires
-read-pages-requires c κs = sym (c .before .before .before .before .header-of .ensures) ∙ c .before .before .header2 .given .1
+read-pages-requires c κs = sym (c .before .before .before .before .header-of .ensures .0) ∙ c .before .before .header2 .given .1
 
 returns : tie.Need-returns
 returns c =
     let h = c .before .before in
     let start = h .before .before .before .before .before in
-    let t = turned-answers _ _ (start .args .words .now) (sym (h .before .before .header-of .ensures) ∙ h .header .given .1) in
-    (ap (beside 0) (c .bare-answer .ensures) ∙ t .0, t .1)
+    let o = h .before .before .header-of .ensures in
+    let t = turned-answers _ _ (start .args .words .now) (sym (o .0) ∙ h .header .given .1) in
+    (ap (beside 0) (c .bare-answer .ensures) ∙ t .0, t .1, o .2)
 
 same-length : tie.Need-same-length
 same-length c = search needs

@@ -18,7 +18,7 @@ short-room-requires c κs = search needs
 
 returns-2 : tie.Need-returns-2
 returns-2 c =
-    let accepted = c .before .before .before in
+    let accepted = c .before .before in
     let measured = accepted .before .before .before in
     let start = measured .before .before .before in
     let m = measured .measure-pages .ensures in
@@ -26,7 +26,7 @@ returns-2 c =
 
 fill-pages-requires : tie.Need-fill-pages-requires
 fill-pages-requires c κs =
-    let accepted = c .before .before .before in
+    let accepted = c .before .before in
     let measured = accepted .before .before .before in
     let start = measured .before .before .before in
     let m = measured .measure-pages .ensures in
@@ -38,7 +38,7 @@ same-length c = search needs
 returns-3 : tie.Need-returns-3
 returns-3 c =
     let roomly = c .before .before .before .before in
-    let accepted = roomly .before .before in
+    let accepted = roomly .before in
     let measured = accepted .before .before .before in
     let start = measured .before .before .before in
     let m = measured .measure-pages .ensures in

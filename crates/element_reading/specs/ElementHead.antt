@@ -1,15 +1,13 @@
--- Proved equal to the grammar (Reader: reads, refuses-exactly-by): what the reader of an element answers. To be believed: `stepAnswer`,
--- 01's number and values of each answer.
+-- Proved equal to the grammar (Reader: reads, refuses-exactly-by) and to 01's rows (NumbersExactly: step-exactly): what the reader of an
+-- element answers.
 -- Assumes nothing.
 use Prim.Native.Nat.{ℕ, _+_}
 use mathlib.Core.Bool.{Bool, true, false}
 use mathlib.Core.List.{List, [], _∷_}
-use lib.ListN.{length, drop}
+use lib.ListN.{drop}
 use lib.Dec.{eqb}
 use Rattle.run.specs.Choice.{pick}
 use Rattle.run.specs.Head.{Head, element, refused, none}
-use Rattle.run.specs.declared.Answer.{Answer}
-use Rattle.run.specs.Answers.{answer}
 use Rattle.sorts.specs.declared.Form.{Form}
 use Rattle.sorts.specs.declared.Sort.{Sort}
 use Rattle.sorts.specs.declared.Sort.the-variants.{Graphic, Mark, Underline, Shift, Control, SequenceStart, Refused}
@@ -18,12 +16,12 @@ use Rattle.sorts.specs.declared.Found.the-variants.{Char, Nothing}
 use Rattle.squares.specs.Squares.{squareOf}
 use Rattle.sorts.specs.Sorts.{sortIn, shiftedIn, sortNumber}
 use Rattle.sequence_reading.specs.Grammar.{Sequence}
-use Rattle.sequence_reading.specs.Reading.{sequenceHead}
+use Rattle.sequence_reading.specs.SequenceHead.{sequenceHead}
 use Rattle.element_words.specs.declared.Element.{Element}
 use Rattle.element_words.specs.declared.Element.the-variants.{One}
 use Rattle.element_reading.specs.declared.Step.{Step}
 use Rattle.element_reading.specs.declared.Step.the-variants.{Element as Read, Refused as Stopped, End}
-use Rattle.element_words.specs.Words.{graphicWord, controlWord, sequenceElement, wordsOf}
+use Rattle.element_words.specs.Words.{graphicWord, controlWord, sequenceElement}
 
 -- "at one octet 5 goes first": 5 for an octet of 80 or above in seven bits, else the number of what may not stand there
 abbrev pub highOr : ℕ → Sort → ℕ
@@ -92,10 +90,3 @@ stepOf at none = End
 -- answers that none is left."
 unfoldable pub stepAt : Form → List ℕ → ℕ → Step
 stepAt f text at = stepOf at (headIn f (drop at text))
-
--- 01's number and values of each answer: an element read is one element, its place the place after it, its count its words; "A lone
--- read's refusal has element 0"
-abbrev pub stepAnswer : Step → Answer
-stepAnswer (Read e next) = answer 0 1 next (length (wordsOf e))
-stepAnswer (Stopped r p c) = answer r 0 p c
-stepAnswer End = answer 0 0 0 0

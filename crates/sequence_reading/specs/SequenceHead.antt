@@ -1,28 +1,23 @@
--- Proved equal to the grammar (Reader: sequence-reads, refuses-exactly): what the reader of a control sequence answers, octet by octet,
--- from the 9B on. To be believed: `listOf` and `valuesOf`, the eight values of a struct, and `readingNumber`, 01's number of each answer.
+-- Proved equal to the grammar (Reader: sequence-reads, refuses-exactly) and to 01's rows (NumbersExactly: reading-exactly): what the reader
+-- of a control sequence answers, octet by octet, from the 9B on. A part of the code: `Fair`.
 -- Assumes nothing.
 use Prim.Native.Nat.{ℕ, _+_, _*_, _≤_}
 use mathlib.Core.List.{List, [], _∷_, _++_}
-use lib.ListN.{length, getD, drop}
+use lib.ListN.{length, drop}
 use lib.Dec.{leb, eqb}
 use Rattle.run.specs.Choice.{pick}
 use Rattle.run.specs.Head.{Head, element, refused, none}
+use Rattle.sorts.specs.Forms.{CSI}
 use Rattle.sequence_reading.specs.declared.Kind.{Kind}
 use Rattle.sequence_reading.specs.declared.Kind.the-variants.{Digit, Separator, Middle, Final, Other}
 use Rattle.sequence_reading.specs.declared.Scan.{Scan}
 use Rattle.sequence_reading.specs.declared.Next.{Next}
 use Rattle.sequence_reading.specs.declared.Next.the-variants.{More, Value, Last, Bad}
-use Rattle.sequence_reading.specs.declared.Values.{Values}
 use Rattle.sequence_reading.specs.declared.Reading.{Reading}
 use Rattle.sequence_reading.specs.declared.Reading.the-variants.{Whole, Refused, End}
-use Rattle.sequence_reading.specs.Kinds.{CSI, kindOf}
+use Rattle.sequence_reading.specs.Kinds.{kindOf}
 use Rattle.sequence_reading.specs.Grammar.{Sequence}
-
--- the bounds that a state keeps: the value that is open, the values before it, the octets before the final
-pub record Fair (s : Scan) : Type 0 where
-  pub small : s .current ≤ 999
-  pub few : s .closed ≤ 7
-  pub short : s .taken ≤ 39
+use Rattle.sequence_reading.specs.EightValues.{valuesOf}
 
 -- ---- one octet
 
@@ -89,30 +84,6 @@ sequenceHead (b ∷ bs) = pick (eqb b CSI) (scan [] begun bs) (refused 6 0)
 
 -- ---- the answer at a place
 
--- the list's first eight entries, then zeros
-abbrev pub valuesOf : List ℕ → Values
-valuesOf l =
-    record {
-      v0 = getD l 0 0;
-      v1 = getD l 1 0;
-      v2 = getD l 2 0;
-      v3 = getD l 3 0;
-      v4 = getD l 4 0;
-      v5 = getD l 5 0;
-      v6 = getD l 6 0;
-      v7 = getD l 7 0;
-    }
-
--- the eight entries of a struct of values
-abbrev pub listOf : Values → List ℕ
-listOf e = e .v0 ∷ e .v1 ∷ e .v2 ∷ e .v3 ∷ e .v4 ∷ e .v5 ∷ e .v6 ∷ e .v7 ∷ []
-
--- 01's number of each answer
-abbrev pub readingNumber : Reading → ℕ
-readingNumber (Whole m f n vs k) = 0
-readingNumber (Refused r d) = r
-readingNumber End = 0
-
 abbrev pub readingOf : ℕ → Head Sequence → Reading
 readingOf at (element q k) = Whole (q .middle) (q .last) (length (q .values)) (valuesOf (q .values)) (at + k)
 readingOf at (refused r d) = Refused r (at + d)
@@ -120,3 +91,11 @@ readingOf at none = End
 
 unfoldable pub readingAt : List ℕ → ℕ → Reading
 readingAt text at = readingOf at (sequenceHead (drop at text))
+
+-- ---- parts of the code
+
+-- the bounds that a state keeps: the value that is open, the values before it, the octets before the final
+pub record Fair (s : Scan) : Type 0 where
+  pub small : s .current ≤ 999
+  pub few : s .closed ≤ 7
+  pub short : s .taken ≤ 39
