@@ -1,0 +1,94 @@
+#!/usr/bin/env python3
+"""Each public function of the codec promises exactly what its name in specs/Promises.antt says, and the name allows one answer.
+
+Of each `pub fn` of the crates from `run` to `oakentwirl`, by its signature alone: it has no `requires`; its one `ensures` is its promise's
+name, with every argument at entry, the result, and every lent buffer at exit; the crate proves `Once` or `OnceBoth` of that name. A function
+for C promises what the function that it calls promises. What the names say is proved by the check, not here.
+"""
+
+import re
+import sys
+from pathlib import Path
+
+ROOT = Path(__file__).resolve().parent.parent
+LAST = "oakentwirl"
+
+START = re.compile(r'^pub (?:extern "C" )?fn (\w+)\(')
+
+
+def functions(text):
+    """Name, parameters, clauses and body of each public function: the formatter puts each of these on lines of its own."""
+    lines = iter(text.splitlines())
+    for line in lines:
+        start = START.match(line)
+        if not start:
+            continue
+        head, clauses, body = [line], [], []
+        while not re.search(r"\)(?: -> [^()]+)?$", head[-1]):
+            head.append(next(lines))
+        for line in lines:
+            if line == "{":
+                break
+            clauses.append(line)
+        for line in lines:
+            if line == "}":
+                break
+            body.append(line)
+        signature = " ".join(head)[start.end():]
+        yield start.group(1), signature[:signature.rindex(")")], " ".join(" ".join(clauses).split()), " ".join(body)
+
+
+def codec_crates():
+    for line in (ROOT / "crates.txt").read_text().splitlines():
+        name = line.split(":")[0].strip()
+        yield name
+        if name == LAST:
+            return
+
+
+def promise_of(function):
+    return "".join(part.capitalize() for part in function.split("_")) + "Promise"
+
+
+def parameters(signature):
+    for part in re.split(r",\s*(?![^\[]*\])", signature.strip().rstrip(",")):
+        if part:
+            name, kind = part.split(":", 1)
+            yield name.strip(), kind.strip()
+
+
+def expected(promise, signature):
+    """The whole `ensures` that a function of this signature has."""
+    given, after = [], []
+    for name, kind in parameters(signature):
+        given.append(f"(now ({name} .entry))" if kind.startswith("&") else name)
+        if kind.startswith("&mut"):
+            after.append(f"(now ({name} .exit))")
+    return f"ensures {{ λ r. ⌜ {' '.join([promise, *given, 'r', *after])} ⌝ }}"
+
+
+def faults(crate):
+    proofs = "".join(p.read_text() for p in sorted((ROOT / "crates" / crate / "proofs").glob("*.antt")))
+    for source in sorted((ROOT / "crates" / crate / "src").glob("*.rt")):
+        for function, signature, clauses, body in functions(source.read_text()):
+            called = re.fullmatch(r"\s*\w+::(\w+)\([^()]*\)\s*", body) if crate == LAST else None
+            promise = promise_of(called.group(1) if called else function)
+            if clauses != expected(promise, signature):
+                yield f"{crate}::{function}: {clauses or 'no ensures'}\n    and not {expected(promise, signature)}"
+            elif crate != LAST and not re.search(rf"\bOnce(Both)? \(?{promise}\b", proofs):
+                yield f"{crate}::{function}: nothing says that {promise} allows one answer"
+            else:
+                yield None
+
+
+def main():
+    results = [fault for crate in codec_crates() for fault in faults(crate)]
+    wrong = [fault for fault in results if fault]
+    for fault in wrong:
+        print(fault)
+    print(f"promises: {len(results) - len(wrong)} of {len(results)} public functions cite a name that allows one answer")
+    return 1 if wrong or not results else 0
+
+
+if __name__ == "__main__":
+    sys.exit(main())
