@@ -1,19 +1,17 @@
 /* Does one job on one text so many times: the counts of two runs, with one round and with none, differ by what the job costs.
      drive JOB TEXT OCTETS ROUNDS
-   JOB: read-F, write-F, convert-F-G; iconv-F:FROM:TO, on the octets of form F; iconv-words-F:NAME, which writes as NAME what iconv
-   read of these octets from NAME. TEXT: ascii, nine-to-one, pairs, supplementary, sequences. */
+   JOB: read-F, write-F, convert-F-G; feed-F-N, a page in pieces of N octets; iconv-F:FROM:TO, on the octets of form F;
+   iconv-words-F:NAME, which writes as NAME what iconv read of these octets from NAME. TEXT: ascii, nine-to-one, pairs, supplementary,
+   sequences. */
 #include <iconv.h>
 #include <stdint.h>
 #include <stdio.h>
 #include <stdlib.h>
 #include <string.h>
 
-struct oak_answer { size_t number, element, place, count; };
-struct oak_answer oak_read(uint32_t form, const uint8_t *text, size_t text_len, uint32_t *words, size_t words_len);
-struct oak_answer oak_write(uint32_t form, const uint32_t *words, size_t words_len, uint8_t *text, size_t text_len);
-struct oak_answer oak_convert(uint32_t source, uint32_t target, const uint8_t *text, size_t text_len, uint8_t *out, size_t out_len);
+#include "oakentwirl.h"
 
-#define MOST 1048576
+#define MOST OAK_MOST_ENTRIES
 static uint8_t text[MOST], out[8 * MOST];
 static uint32_t words[MOST];
 
@@ -116,6 +114,21 @@ static void expect(struct oak_answer a)
         fail("refused");
 }
 
+/* The page in pieces of one size; the words of all of them stand one after another. */
+static void feed(int form, size_t size, size_t piece)
+{
+    struct oak_carry carry = oak_fresh(form).carry;
+    size_t at = 0, handed = 0;
+    do {
+        size_t n = size - at < piece ? size - at : piece;
+        const struct oak_fed fed = oak_feed(carry, text + at, n, at + n == size, words + handed, MOST - handed);
+        expect(fed.answer);
+        carry = fed.carry;
+        at += n;
+        handed += fed.handed;
+    } while (at < size);
+}
+
 /* So many rounds of iconv over a whole input; how many octets it put out. */
 static size_t recode(const char *from, const char *to, void *input, size_t size, void *output, size_t room, int rounds)
 {
@@ -148,6 +161,9 @@ int main(int argc, char **argv)
     if (strncmp(job, "read", 4) == 0)
         for (int i = 0; i < rounds; i++)
             expect(oak_read(form, text, size, words, MOST));
+    else if (strncmp(job, "feed", 4) == 0)
+        for (int i = 0; i < rounds; i++)
+            feed(form, size, strtoul(digit + 2, NULL, 10));
     else if (strncmp(job, "write", 5) == 0) {
         struct oak_answer a = oak_read(form, text, size, words, MOST);
         expect(a);

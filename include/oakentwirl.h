@@ -16,9 +16,14 @@
  * writes the first `count` entries of its buffer and leaves the others as they were. The functions ask for no memory and keep
  * nothing between two calls, so that any number of threads may call them at once.
  *
+ * The one exception is oak_feed, which takes a page in pieces: a call that meets a fault in the page has written the words before
+ * the fault, and the `count` of an accepted call is of words since the page was made fresh. Accepted or refused, oak_feed writes the
+ * first `handed` entries of its buffer and leaves the others as they were.
+ *
  * To find how large a buffer must be, lend one of length 0: the answer is OAK_SHORT_ROOM with the room needed as `count`, or
- * OAK_ACCEPTED where nothing is to be written, or the refusal that stands before any room is asked for. Reading a text or a case
- * never needs more words than it has octets.
+ * OAK_ACCEPTED where nothing is to be written, or a refusal that no room would alter. Of oak_feed any answer but OAK_SHORT_ROOM gives a
+ * carry that has taken the piece, or that goes no further: offer the piece again with the earlier carry only. Reading a text or a case
+ * never needs more words than it has octets; a piece of a page, than it has octets and OAK_MOST_HELD more.
  */
 #ifndef OAKENTWIRL_H
 #define OAKENTWIRL_H
@@ -40,28 +45,36 @@ enum {
     OAK_BASIC      = 3  /* basic T.61, with underline, controls and control sequences */
 };
 
-/* The most entries of a text or a list of words, the most pages of a case, and the most octets of a page. */
+/* The most entries of a text, of a list of words or of a page in pieces; the most pages of a case; the most octets of a page of a case. */
 #define OAK_MOST_ENTRIES 1048576
 #define OAK_MOST_PAGES 256
 #define OAK_MOST_OCTETS 65535
+
+/* The most octets of an unfinished element that wait from one piece of a page to the next. */
+#define OAK_MOST_HELD 39
 
 /*
  * Every answer's `number`: what it means; what `element`, `place` and `count` are with it; and what a caller does next.
  *
  * `element` is the number of elements before the refused one for 1 to 8 and 10, and 0 for 9 and from 11 on. "First" is the place of the
  * refused element's first octet, "deciding" that of the octet that decided. In a refused page of a case both are counted from
- * the page's start. Where place and count are not named, they are 0.
+ * the page's start, and so they are in a page that comes in pieces. Where place and count are not named, they are 0.
  */
 enum {
-    /* All is well. element: elements (0 of oak_case_write); place: input length; count: entries written. Next: use those. */
+    /* All is well. element: elements (0 of oak_case_write); place: input length; count: entries written. Next: use those.
+       oak_fresh: zeros. Next: feed the first piece.
+       oak_feed: elements, octets taken and words since fresh. Next: use the words handed out, and feed the next piece, unless the page
+       ended with this one. */
     OAK_ACCEPTED = 0,
-    /* An octet begins nothing in the form, or codes nothing after SS2. place: first; count: deciding. Next: name it, or try another form. */
+    /* An octet begins nothing in the form, or codes nothing after SS2. place: first; count: deciding.
+       Next: name it, or try another form. */
     OAK_BEGINS_NOTHING = 1,
     /* 0E, 0F, 1B, 1D, or 19 in forms 1 and 3: other alphabets are not read. place, count: that octet. Next: name it. */
     OAK_ESCAPE = 2,
     /* What follows a mark is not its listed follower, or what follows CC may not. place: first; count: deciding. Next: name the octet. */
     OAK_NOT_A_FOLLOWER = 3,
-    /* The input ends inside an element. place: first; count: input length. Next: fetch the rest, or keep what stands before `place`. */
+    /* The input ends inside an element. place: first; count: input length. Next: fetch the rest, or keep what stands before `place`.
+       oak_feed: only where it is told that the page ends; it is final, and no rest can follow; the words before it are handed out. */
     OAK_CUT_SHORT = 4,
     /* An octet of 80 or above in form 2. place: first; count: deciding. Next: read it as form 1 or 3, or name the octet. */
     OAK_HIGH_OCTET = 5,
@@ -71,13 +84,18 @@ enum {
     OAK_PASSES_LIMIT = 7,
     /* The 40th octet of a control sequence is not its final. place: its 9B; count: deciding. Next: name the octet. */
     OAK_FORTIETH = 8,
-    /* The lent room is short. count: the room needed, in entries. Next: lend that much and ask again. */
+    /* The lent room is short. count: the room needed, in entries. Next: lend that much and ask again.
+       oak_feed: the room for what this call would hand out. Next: offer the same piece again. */
     OAK_SHORT_ROOM = 9,
-    /* An element that the form lacks, or words that are none. place: its first word (oak_convert: octet). Next: replace it, or take another form. */
+    /* An element that the form lacks, or words that are none. place: its first word (oak_convert: octet).
+       Next: replace it, or take another form. */
     OAK_NOT_HELD = 10,
-    /* The form is not 1, 2 or 3: the source, the target, or the octet in the case. Next: give one that is; such a case is not read. */
+    /* The form is not 1, 2 or 3: the source, the target, or the octet in the case. Next: give one that is; such a case is not read.
+       oak_feed: or the carry's fields are found to contradict each other. Next: make it fresh. */
     OAK_NO_FORM = 11,
-    /* More than OAK_MOST_ENTRIES entries of input; not asked of a case. Next: ask for it in parts, each of whole elements. */
+    /* More than OAK_MOST_ENTRIES entries of input; not asked of a case. Next: ask for it in parts, each of whole elements.
+       oak_feed: so many octets since fresh, with this piece's, which is not read; an element that waited is given up. Next: make it
+       fresh, for the next part; with the carry from before this call a smaller piece, or the end, may still be fed. */
     OAK_TOO_LONG = 12,
     /* Fewer than 8 octets, or they do not begin with 54 4C 58. Next: it is no TLX case. */
     OAK_NO_CASE = 13,
@@ -95,6 +113,26 @@ struct oak_answer {
 /* The same, and the page that is refused, counted from 0; it is 0 in every other answer. */
 struct oak_case_answer {
     size_t number, element, place, count, page;
+};
+
+/*
+ * A page that comes in pieces, as off a serial lead: what goes from one call to the next. Its fields are not for callers. Keep the carry
+ * that a call gave, and hand it in with the next piece; one from an earlier call goes on from where it stood then. Every carry gets an
+ * answer, also one that no call gave: OAK_NO_FORM where it has no form, such as all zeros, or its fields are found to contradict each
+ * other; else they are believed.
+ */
+struct oak_carry {
+    struct oak_answer answer;
+    size_t spare, holds;
+    uint32_t form, stopped;
+    uint8_t held[OAK_MOST_HELD];
+};
+
+/* What oak_fresh and oak_feed give: the carry for the next call, the four numbers, and how many words were handed out. */
+struct oak_fed {
+    struct oak_carry carry;
+    struct oak_answer answer;
+    size_t handed;
 };
 
 /*
@@ -125,6 +163,22 @@ struct oak_case_answer {
 
 /* Reads a text of the form into words. Refused with 11, 12, 1 to 8, 9: the first that holds, in this order. */
 struct oak_answer oak_read(uint32_t form, const uint8_t *text, size_t text_len, uint32_t *words, size_t words_len);
+
+/* Makes a page fresh: a carry that holds no octets and has read no elements. Hands out nothing. Refused with 11. */
+struct oak_fed oak_fresh(uint32_t form);
+
+/*
+ * Takes the next piece of a page, which may be empty, and hands out the words of the elements that it finishes. `ended` is 0 where more
+ * is to come, and anything else where the page ends with this piece. However a page within OAK_MOST_ENTRIES is cut, the words handed out
+ * are those of its elements up to its end or its first fault, and its last answer is oak_read's of the whole page, with room enough. Of
+ * a longer one, the words are those of the whole elements before the piece that passes the limit, unless a fault comes first.
+ *
+ * A buffer of piece_len + OAK_MOST_HELD words is always large enough. Where it is short, nothing is handed out and the carry is as it
+ * was: the same piece can be offered again. Any other refusal, and the answer at the end, is repeated by each call with its carry, which
+ * hands out nothing, until oak_fresh makes a page fresh. Refused with 11, what is repeated, 12, 9 (even where a fault follows), 1 to 8.
+ */
+struct oak_fed oak_feed(struct oak_carry carry, const uint8_t *piece, size_t piece_len, uint32_t ended, uint32_t *words,
+                        size_t words_len);
 
 /* Writes words as text of the form, each element in its one canonical spelling. Refused with 11, 12, 10, 9. */
 struct oak_answer oak_write(uint32_t form, const uint32_t *words, size_t words_len, uint8_t *text, size_t text_len);

@@ -7,6 +7,7 @@
  * unreadable page; or right before one. So one octet too far to that side ends the run. The driver judges nothing: tests/library.py,
  * which has the form of questions and answers too, compares.
  */
+#include <stddef.h>
 #include <stdint.h>
 #include <stdio.h>
 #include <stdlib.h>
@@ -19,20 +20,28 @@
 #define STEP ((size_t)65536)
 #define ROOM (66 * STEP)
 
-enum ask { READ = 1, WRITE, CONVERT, CASE_READ, CASE_WRITE, LOOK_TOO_FAR, PUT_TOO_FAR };
+enum ask { READ = 1, WRITE, CONVERT, CASE_READ, CASE_WRITE, LOOK_TOO_FAR, PUT_TOO_FAR, FRESH, CARRIED };
 enum side { MIDDLE, START, END };
 
 struct question {
     uint32_t ask, form, target;
-    uint32_t first;  /* octets or words of the text, or page lengths */
+    uint32_t first;  /* octets or words of the text, or page lengths, or calls of a page that comes in pieces */
     uint32_t second; /* octets of the pages that a case is written from */
     uint32_t room;   /* entries of the buffer that is written */
+};
+
+/* One call of a page that comes in pieces. */
+struct call {
+    uint32_t octets, ended, room;
 };
 
 struct buffer {
     void *start;
     size_t octets;
 };
+
+/* What a carry has, without the octet at its end that no field has. */
+#define CARRY (offsetof(struct oak_carry, held) + sizeof((struct oak_carry *)0)->held)
 
 static void die(const char *why)
 {
@@ -120,6 +129,37 @@ static struct oak_case_answer asked(const struct question *q, enum side side, st
     abort();
 }
 
+static void give_fed(struct oak_fed fed)
+{
+    give((struct buffer){&fed.carry, CARRY});
+    give((struct buffer){&fed.answer, sizeof fed.answer});
+    give((struct buffer){&fed.handed, sizeof fed.handed});
+}
+
+/* A page in pieces, made fresh here or with the carry that is given: each call has its piece and its words in buffers of their own. */
+static void feed_all(const struct question *q, enum side side, uint8_t *ins, uint8_t *outs)
+{
+    struct oak_fed fed = {0};
+    struct call c;
+
+    if (q->ask == FRESH) {
+        fed = oak_fresh(q->form);
+        give_fed(fed);
+    } else
+        take((struct buffer){&fed.carry, CARRY});
+    for (uint32_t i = 0; i < q->first; i++) {
+        take((struct buffer){&c, sizeof c});
+        struct buffer in = lay(ins, side, c.octets, 1);
+        struct buffer out = lay(outs, side, c.room, sizeof(uint32_t));
+        take(in);
+        fill(out);
+        fed = oak_feed(fed.carry, in.start, c.octets, c.ended, out.start, c.room);
+        give_fed(fed);
+        give(in);
+        give(out);
+    }
+}
+
 static enum side side_of(int count, char **arguments)
 {
     static const char *const names[] = {"middle", "start", "end"};
@@ -137,6 +177,10 @@ int main(int count, char **arguments)
     struct question q;
 
     while (fread(&q, sizeof q, 1, stdin) == 1) {
+        if (q.ask == FRESH || q.ask == CARRIED) {
+            feed_all(&q, side, ins, outs);
+            continue;
+        }
         size_t in_width = q.ask == WRITE || q.ask == CASE_WRITE ? sizeof(uint32_t) : 1;
         size_t out_width = q.ask == READ || q.ask == CASE_READ ? sizeof(uint32_t) : 1;
         struct buffer in = lay(ins, side, q.first, in_width);

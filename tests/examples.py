@@ -1,9 +1,9 @@
-"""The examples: programs that convert a file from one form to another, and those of README.md.
+"""The examples: programs that convert a file from one form to another, one that reads a page as it comes, and those of README.md.
 
 `check` runs one program on each text beside the model of document 01, and compares its exit status, its output file and its message:
-that of a refusal names the number, the octet in hex, its place and its element. `check_readme` runs the lines of a section of
-README.md as they are written there, and compares what they write with the comments at their end. `check_own` runs a program of tests
-that Rust made. Standard library only.
+that of a refusal names the number, the octet in hex, its place and its element. `check_serial` does so with pages on standard input, and
+compares the words that are printed. `check_readme` runs the lines of a section of README.md as they are written there, and compares what
+they write with the comments at their end. `check_own` runs a program of tests that Rust made. Standard library only.
 """
 from __future__ import annotations
 
@@ -50,15 +50,20 @@ def named(answer: model.Answer) -> int:
     return answer.place if answer.number in (4, 10) else answer.count
 
 
+def refusal_message(program: str, answer: model.Answer, text: bytes) -> str:
+    """How the message of a refusal begins."""
+    message = f"{program}: refused with {answer.number}: "
+    if answer.number <= 10:
+        at = named(answer)
+        message += f"octet {text[at]:02X} at place {at}, in element {answer.element}, "
+    return message
+
+
 def expected(asked: Conversion) -> Ending:
     answer, octets = model.convert_text(asked.source, asked.target, asked.text)
     if answer.number == 0:
         return Ending(0, bytes(octets), "")
-    message = f"convert: refused with {answer.number}: "
-    if answer.number <= 10:
-        at = named(answer)
-        message += f"octet {asked.text[at]:02X} at place {at}, in element {answer.element}, "
-    return Ending(1, None, message)
+    return Ending(1, None, refusal_message("convert", answer, asked.text))
 
 
 def run(program: Sequence[str], asked: Conversion, folder: pathlib.Path) -> Ending:
@@ -87,6 +92,50 @@ def check(name: str, program: Sequence[str], folder: pathlib.Path) -> tuple[int,
             failed += 1
             print(f"  {name}: {asked.source} to {asked.target}, {asked.text[:40].hex(' ')}: {ending}, and not {wanted}")
     print(f"the example in {name}: {passed} of {passed + failed} files converted or refused as they should be")
+    return passed, failed
+
+
+def pages() -> Iterator[tuple[int, bytes]]:
+    """The document's readings, what every form refuses, every character of each, no form, and a page over the limit."""
+    yield from ((form, bytes.fromhex(text)) for form, text, _ in model.READINGS)
+    for form in model.FORMS:
+        yield from ((form, b"Ab" + bytes(octets)) for octets in texts.refused_octets(form))
+        yield from ((form, bytes(text)) for text in texts.whole_texts(form))
+    yield from ((form, b"A") for form in (0, 4, 9))
+    yield 1, b"A" * (model.MOST_ENTRIES + 1)
+
+
+def expected_page(form: int, page: bytes) -> Ending:
+    """The words up to the end or the first fault, one to a line, and then the three counts."""
+    if form not in model.FORMS:
+        return Ending(1, b"", refusal_message("serial", model.Answer(11), page))
+    # Off a file each piece has 7 octets, and the one that would pass the limit is not read.
+    is_long = len(page) > model.MOST_ENTRIES
+    pieces, refusal = model.read_pieces(form, page[: model.MOST_ENTRIES // 7 * 7] if is_long else page)
+    words = model.words_of(pieces)
+    printed = "".join(f"{word:08X}\n" for word in words)
+    if is_long or refusal:
+        return Ending(1, printed.encode(), refusal_message("serial", model.Answer(12) if is_long else refusal, page))
+    return Ending(0, f"{printed}{len(pieces)} elements, {len(page)} octets, {len(words)} words\n".encode(), "")
+
+
+def run_page(program: Sequence[str], form: int, page: bytes, folder: pathlib.Path) -> Ending:
+    (folder / "text").write_bytes(page)
+    with open(folder / "text", "rb") as text:
+        ended = subprocess.run([*program, str(form)], stdin=text, capture_output=True, check=False)
+    return Ending(ended.returncode, ended.stdout, ended.stderr.decode())
+
+
+def check_serial(program: Sequence[str], folder: pathlib.Path) -> tuple[int, int]:
+    passed = failed = 0
+    for form, page in pages():
+        ending, wanted = run_page(program, form, page, folder), expected_page(form, page)
+        if is_as(ending, wanted):
+            passed += 1
+        else:
+            failed += 1
+            print(f"  a page of form {form}, {page[:40].hex(' ')}: {ending}, and not {wanted}")
+    print(f"the example of a page as it comes: {passed} of {passed + failed} pages read or refused as they should be")
     return passed, failed
 
 

@@ -1,12 +1,16 @@
-"""The library for C, asked through its header by tests/driver.c, beside the model of document 01; and the examples that call it.
+"""The library for C, asked through its header by tests/driver.c, beside the model of the documents; and the examples that call it.
 
     library.py FOLDER [EMULATOR ..]     for tests/run: FOLDER has the built programs, which run under the emulator if one is named
 
 `compare` asks every question with the buffers laid in three ways, and says how many answers are the model's: all numbers, and every
 octet of each lent buffer after the call, the ones that are only read too. Questions are all texts of up to two octets, read and
-converted; the vectors of make_text_vectors.py and make_tlx_vectors.py; random texts, words and cases, whole and damaged; and the
-longest texts. A question is six 32-bit numbers (what is asked, form, target, entries of the first buffer, octets of the second, room)
-and the two buffers; an answer is five 64-bit numbers and all three buffers. Standard library only.
+converted; the vectors of make_text_vectors.py, make_serial_vectors.py and make_tlx_vectors.py; random texts, words and cases, whole and
+damaged; random pages up to the limit in random pieces, each beside its reading as a whole; carries that nobody made; and the longest texts.
+
+A question is six 32-bit numbers (what is asked, form, target, entries of the first buffer, octets of the second, room) and the two
+buffers; an answer is five 64-bit numbers and all three buffers. A page in pieces has its number of calls as the first buffer's entries,
+and then the fields of a carry if it is not made fresh. For each call follow three numbers (octets of the piece, whether the page ends,
+room) and the piece; its answer is the carry, the four numbers, how many words were handed out, and both buffers. Standard library only.
 """
 from __future__ import annotations
 
@@ -19,20 +23,25 @@ import struct
 import subprocess
 import sys
 import tempfile
-from typing import Iterable, Iterator, NamedTuple, Sequence
+from typing import Iterable, Iterator, NamedTuple, Sequence, Union
 
 sys.dont_write_bytecode = True
 import examples
+import make_serial_vectors as serials
 import make_text_vectors as texts
 import make_tlx_vectors as cases
 import model
 
-READ, WRITE, CONVERT, CASE_READ, CASE_WRITE, LOOK_TOO_FAR, PUT_TOO_FAR = range(1, 8)
+READ, WRITE, CONVERT, CASE_READ, CASE_WRITE, LOOK_TOO_FAR, PUT_TOO_FAR, FRESH, CARRIED = range(1, 10)
 OCTET, WORD = 1, 4
 SIDES = ("middle", "start", "end")
 SEED = 61
 RANDOM_TEXTS = 2_500  # of each form, before damage
 RANDOM_CASES = 400
+RANDOM_PAGES = 100  # of each form, in pieces, before damage
+LONG_PAGES = 2  # and so many of any length up to the limit
+MOST_CALLS = 1_500
+RANDOM_CARRIES = 10_000
 REFUSED_ROOM = 3
 
 # What the driver fills a buffer with: it comes again after 256 octets.
@@ -99,7 +108,30 @@ def short() -> Iterator[Asked]:
                     yield converting(form, target, text, 2 * size)
 
 
+def carry_octets(carry: model.Carry) -> bytes:
+    return struct.pack("<6Q2I", *carry.answer, carry.spare, carry.holds, carry.form, carry.stopped) + bytes(carry.held)
+
+
+def fed_octets(fed: model.Fed) -> bytes:
+    return carry_octets(fed.carry) + struct.pack("<5Q", *fed.answer, len(fed.words))
+
+
+def feeding(start: Union[int, model.Carry], calls: Sequence[serials.Call], outcomes: Iterable[model.Fed]) -> Asked:
+    """A page in pieces: where it is made fresh, with the outcome of that first."""
+    is_fresh = isinstance(start, int)
+    question = [struct.pack("<6I", FRESH if is_fresh else CARRIED, start if is_fresh else 0, 0, len(calls), 0, 0)]
+    question += [] if is_fresh else [carry_octets(start)]
+    outcomes = iter(outcomes)
+    answer = [fed_octets(next(outcomes))] if is_fresh else []
+    for call, fed in zip(calls, outcomes):
+        question += [struct.pack("<3I", len(call.piece), call.ended, call.room), call.piece]
+        answer += [fed_octets(fed), call.piece, left(words_octets(fed.words), WORD * call.room)]
+    return Asked(b"".join(question), b"".join(answer))
+
+
 def vectors() -> Iterator[Asked]:
+    for found in serials.files().values():
+        yield from (feeding(vector.start, vector.calls, serials.outcomes(vector)) for vector in found)
     for form in model.FORMS:
         yield from (reading(q.forms[0], bytes(q.entries), q.room) for q in texts.readings(form))
         yield from (writing(q.forms[0], q.entries, q.room) for q in texts.writings(form))
@@ -160,12 +192,100 @@ def drawn() -> Iterator[Asked]:
             yield case_writing(form, lengths, octets, room_near(model.write_case(form, lengths, octets), chance))
 
 
+def some_page(form: int, size: int, chance: random.Random) -> bytes:
+    """A page of so many octets, of a few hundred elements over and over; the last may be cut off."""
+    some = [bytes(texts.some_element(form, chance)) for _ in range(300)]
+    return b"".join(chance.choices(some, k=size))[:size]
+
+
+def random_pages(form: int, chance: random.Random) -> Iterator[bytes]:
+    """Pages of any size up to the limit, and each with a fault somewhere."""
+    sizes = [chance.randrange(1, 2_000) for _ in range(RANDOM_PAGES)] + [chance.randrange(model.MOST_ENTRIES) for _ in range(LONG_PAGES)]
+    for size in [*sizes, model.MOST_ENTRIES]:
+        page = some_page(form, size, chance)
+        at = chance.randrange(size)
+        yield page
+        yield (page[:at] + bytes(chance.choice(texts.refused_octets(form))) + page[at:])[:size]
+
+
+def random_ends(size: int, chance: random.Random) -> list[int]:
+    """Where a page is cut: pieces of about one size, empty ones too. The end is told with the last octets, or behind them."""
+    about = max(chance.choice([1, 3, 15, 40, 300, 5_000, 70_000]), size // MOST_CALLS)
+    ends = itertools.accumulate(chance.randrange(2 * about + 1) for _ in range(2 * size // about))
+    return [*(end for end in ends if end < size), size, *chance.choice([[], [size]])]
+
+
+def cut(form: int, page: bytes, outcomes: Sequence[model.Fed], ends: Sequence[int], chance: random.Random) -> Asked:
+    """The page in pieces, each now and then offered with too little room first; and calls after its end."""
+    told = [model.fresh(form)]
+    calls = []
+    for to_come, start, end, fed in zip(range(len(ends) - 1, -1, -1), [0, *ends], ends, outcomes):
+        call = serials.Call(page[start:end], len(fed.words) + chance.choice([0, 0, 1, 7]), to_come == 0)
+        if fed.words and chance.randrange(8) == 0:
+            calls.append(call._replace(room=chance.randrange(len(fed.words))))
+            told.append(model.Fed(told[-1].carry, model.Answer(9, 0, 0, len(fed.words)), []))
+        calls.append(call)
+        told.append(fed)
+    after = [serials.Call(b"A", 1, False), serials.Call(b"", 0, True)]
+    return feeding(form, [*calls, *after], [*told, *(told[-1]._replace(words=[]) for _ in after)])
+
+
+def whole(form: int, page: bytes, outcomes: Sequence[model.Fed]) -> Asked:
+    """The page read as a whole: its answer is the last one of its pieces, and its words are theirs."""
+    answer = outcomes[-1].answer
+    words = [word for fed in outcomes for word in fed.words] if answer.number == 0 else []
+    return asked(READ, [form], (len(page), page), b"", len(page), answer, left(words_octets(words), WORD * len(page)))
+
+
+def pages() -> Iterator[Asked]:
+    chance = random.Random(SEED)
+    for form in model.FORMS:
+        for page in random_pages(form, chance):
+            ends = random_ends(len(page), chance)
+            outcomes = list(model.cut_page(form, page, ends))
+            yield cut(form, page, outcomes, ends, chance)
+            yield whole(form, page, outcomes)
+
+
+def carries() -> Iterator[Asked]:
+    """Carries that nobody made: one that could have been left, with one field or two set to what lies at an edge."""
+    chance = random.Random(SEED)
+    edges = [0, 1, 2, 3, 38, 39, 40, 41, 255, 256, *(model.MOST_ENTRIES + d for d in (-1, 0, 1)), 2**32 - 1]
+    edges64 = [*edges, 2**32, 2**63, 2**64 - model.MOST_ENTRIES, 2**64 - 40, 2**64 - 1]
+    fields = ["spare", "holds", "form", "stopped", "held", "number", "element", "place", "count"]
+    given = [carry for form in model.FORMS for carry in (*serials.going_carries(form), *serials.stopped_carries(form))]
+    good = list(filter(model.page_of, given))
+    for _ in range(RANDOM_CARRIES):
+        carry = chance.choice(good)
+        for field in chance.sample(fields, chance.choice([1, 1, 2])):
+            if field == "held":
+                carry = carry._replace(held=tuple(chance.choices(texts.TELLING, k=model.MOST_HELD)))
+            elif field in fields[:4]:
+                carry = carry._replace(**{field: chance.choice(edges if field in ("form", "stopped") else edges64)})
+            else:
+                carry = carry._replace(answer=carry.answer._replace(**{field: chance.choice(edges64)}))
+        pieces = [bytes(chance.choices(texts.TELLING, k=size)) for size in (1, 2)]
+        calls = [serials.Call(piece, chance.randrange(4), bool(chance.randrange(2))) for piece in pieces]
+        yield feeding(carry, calls, serials.outcomes(serials.Vector(carry, tuple(calls))))
+
+
+def past_the_limit() -> Asked:
+    """A page of the most octets, which an empty piece does not pass; then one octet more."""
+    page = b"A" * model.MOST_ENTRIES
+    ends = [*range(65_536, model.MOST_ENTRIES + 1, 65_536), model.MOST_ENTRIES]
+    calls = [serials.Call(page[start:end], end - start, False) for start, end in zip([0, *ends], ends)]
+    refused = model.Fed(model.Carry(model.Answer(12), form=1, stopped=1), model.Answer(12), [])
+    calls += [serials.Call(b"A", 0, False), serials.Call(b"", 0, True)]
+    return feeding(1, calls, [model.fresh(1), *model.cut_page(1, page, [*ends, len(page)])][: len(ends) + 1] + [refused, refused])
+
+
 def longest() -> Iterator[Asked]:
     """The longest input, and one entry more."""
     for size in (model.MOST_ENTRIES, model.MOST_ENTRIES + 1):
         yield reading(1, b"A" * size, size)
         yield converting(2, 3, b"\n" * size, size)
         yield writing(3, [0x41] * size, size)
+    yield past_the_limit()
 
 
 def written(asked: Iterable[Asked], folder: pathlib.Path) -> tuple[list[int], list[int]]:
@@ -201,7 +321,7 @@ def driven(command: Sequence[str], folder: pathlib.Path) -> int:
 
 def compare(driver: Sequence[str], folder: pathlib.Path) -> tuple[int, int]:
     """How many answers of the library are the model's, and how many are not."""
-    ends = written(itertools.chain(short(), vectors(), drawn(), longest()), folder)
+    ends = written(itertools.chain(short(), vectors(), drawn(), pages(), carries(), longest()), folder)
     expected = (folder / "expected").read_bytes()
     count = len(ends[0]) - 1
     passed = failed = 0
@@ -239,6 +359,7 @@ def main(folder: pathlib.Path, emulator: Sequence[str]) -> int:
     with tempfile.TemporaryDirectory(dir=folder) as large:
         results += [compare(driver, pathlib.Path(large))]
     results += [examples.check("C", [*emulator, str(folder / "convert-c")], folder), examples.check_readme("Use it from C")]
+    results += [examples.check_serial([*emulator, str(folder / "serial-c")], folder), examples.check_readme("Read a page as it comes")]
     if (folder / "convert-rust").exists():
         results += [examples.check("Rust", [*emulator, str(folder / "convert-rust")], folder)]
         results += [examples.check_own([*emulator, str(folder / "document-rust")]), examples.check_readme("Use it from Rust")]

@@ -1,14 +1,16 @@
-"""The alphabets, the elements, the texts and the TLX case of document 01, from its text alone.
+"""The alphabets, the elements, the texts and the TLX case of document 01, and the requests of document 02, from their text alone.
 
 A form is 1, 2 or 3, an octet is 0 to 255, a character is its Unicode code point. The lists below are the document's own
-sentences, kept as text and taken apart here, so that they can be held against the page. The 154 pairs stand nowhere in the
-document: they are derived from Unicode's canonical decompositions, as it says. Where the document leaves a matter open,
+sentences, kept as text and taken apart here, so that they can be held against the page. The 154 pairs stand nowhere in
+document 01: they are derived from Unicode's canonical decompositions, as it says. Where a document leaves a matter open,
 docs/DECISIONS.md has how it was decided. Run by itself it says whether the document's sixteen readings hold. Standard library only.
 """
 from __future__ import annotations
 
+import bisect
+import itertools
 import unicodedata
-from typing import NamedTuple, Optional, Sequence, Tuple, Union
+from typing import Iterator, NamedTuple, Optional, Sequence, Tuple, Union
 
 FORMS = (1, 2, 3)
 SPACE = 0x20
@@ -579,6 +581,10 @@ def read_pieces(form: int, octets: Octets) -> tuple[list[Piece], Optional[Answer
     return pieces, None
 
 
+def words_of(pieces: Sequence[Piece]) -> list[int]:
+    return [word for piece in pieces for word in piece.words]
+
+
 def pieces_of_words(words: Words) -> tuple[list[Piece], Optional[Answer]]:
     """The elements of the words, with None; or those before the first words that are no element, with 10."""
     pieces: list[Piece] = []
@@ -616,7 +622,7 @@ def read_text(form: int, octets: Octets, room: Optional[int] = None) -> tuple[An
     pieces, refusal = read_pieces(form, octets)
     if refusal:
         return refusal, []
-    return given([word for piece in pieces for word in piece.words], len(pieces), len(octets), room)
+    return given(words_of(pieces), len(pieces), len(octets), room)
 
 
 def write_text(form: int, words: Words, room: Optional[int] = None) -> tuple[Answer, list[int]]:
@@ -724,7 +730,7 @@ def read_case(octets: Octets, room: Optional[int] = None) -> tuple[CaseAnswer, l
         if refusal:
             return CaseAnswer(*refusal, page), []
         elements += len(pieces)
-        words += [word for piece in pieces for word in piece.words]
+        words += words_of(pieces)
     answer, put = given(words, elements, len(octets), room)
     return CaseAnswer(*answer), put
 
@@ -754,6 +760,161 @@ def write_case(form: int, lengths: Sequence[int], octets: Octets, room: Optional
     table = b"".join(length.to_bytes(2, "big") for length in lengths)
     case = CASE_MARK + version + bytes([form]) + pages + table + bytes(octets)
     return given(list(case), 0, len(octets), room)
+
+
+# Pages off the serial lead: document 02, No. 1.
+
+# "carries an unfinished element of at most 39 octets"
+MOST_HELD = 39
+
+
+class Carry(NamedTuple):
+    """What goes from one call to the next, field by field: the last answer, then the octets of an unfinished element.
+
+    `stopped` is 1 where the answer is repeated from now on. Of `held` the first `holds` entries count. FRESH is all of it at 0.
+    """
+
+    answer: Answer = Answer(0)
+    spare: int = 0
+    holds: int = 0
+    form: int = 0
+    stopped: int = 0
+    held: tuple[int, ...] = (0,) * MOST_HELD
+
+
+class Fed(NamedTuple):
+    """What a call answers: the carry that it leaves, the four numbers, and the words handed out."""
+
+    carry: Carry
+    answer: Answer
+    words: list[int]
+
+
+class Page(NamedTuple):
+    """A page that comes in pieces, by all its octets since fresh. Nothing is kept of what was read of them: each call reads them anew.
+
+    `final` is the answer that is repeated, if there is one. `before` is for a page whose first octets are not known, as its reader goes on
+    from a carry that was given outright: the elements, octets and words that stand before `octets`. Since fresh, none do.
+    """
+
+    form: int
+    octets: bytes = b""
+    final: Optional[Answer] = None
+    before: tuple[int, int, int] = (0, 0, 0)
+
+
+def moved_up(answer: Answer, page: Page) -> Answer:
+    """A reading refusal of the page's octets, counted from where the page was made fresh."""
+    elements, octets, _ = page.before
+    return Answer(answer.number, elements + answer.element, octets + answer.place, octets + answer.count)
+
+
+def so_far(page: Page) -> tuple[Answer, bytes]:
+    """Before the end: "0 with the elements, octets taken and words since fresh"; and the octets of the element that is not finished."""
+    pieces, cut = read_pieces(page.form, page.octets)
+    elements, octets, words = page.before
+    opened = page.octets[cut.place :] if cut else b""
+    return Answer(0, elements + len(pieces), octets + len(page.octets), words + len(words_of(pieces))), opened
+
+
+def fed(page: Page, piece: bytes, ended: bool, room: int) -> tuple[Page, Answer, list[int]]:
+    """The page after the call, its answer, and the words handed out.
+
+    "Any other refusal, or the final answer, is repeated with nothing handed out until made fresh." "12 when a piece would pass the limit,
+    before reading it; then 9 if the words to hand out don't fit, even where a fault follows; then the reading refusal."
+    """
+    if page.final:
+        return page, page.final, []
+    grown = page._replace(octets=page.octets + piece)
+    if page.before[1] + len(grown.octets) > MOST_ENTRIES:
+        return page._replace(final=Answer(12)), Answer(12), []
+    # All words of the octets since fresh, less those that were handed out before.
+    pieces, refusal = read_pieces(page.form, grown.octets)
+    handed = words_of(pieces)[len(words_of(read_pieces(page.form, page.octets)[0])) :]
+    if len(handed) > room:
+        return page, Answer(9, 0, 0, len(handed)), []
+    if refusal and (refusal.number != 4 or ended):
+        answer = moved_up(refusal, grown)
+        return grown._replace(final=answer), answer, handed
+    answer, _ = so_far(grown)
+    return grown._replace(final=answer if ended else None), answer, handed
+
+
+def carry_of(page: Page) -> Carry:
+    """The carry of the page: its last answer, and the open element's octets, then zeros; once it has stopped, none."""
+    if page.final:
+        return Carry(page.final, form=page.form, stopped=1)
+    answer, opened = so_far(page)
+    assert len(opened) <= MOST_HELD
+    return Carry(answer, holds=len(opened), form=page.form, held=(*opened, *[0] * (MOST_HELD - len(opened))))
+
+
+def could_be_final(answer: Answer) -> bool:
+    """Whether a page can end in the answer, by its sums alone: within the limit, and no more elements or words than octets."""
+    number, elements, place, count = answer
+    if number == 0:
+        return elements <= place <= MOST_ENTRIES and count <= place
+    if 1 <= number <= 8:
+        return elements <= place <= count <= MOST_ENTRIES
+    return answer == Answer(12)
+
+
+def page_of(carry: Carry) -> Optional[Page]:
+    """The page that the carry goes on with, or None where the form is none, or where the carry's fields contradict each other.
+
+    No feeding leaves "more than 39 octets held, octets taken over the limit, elements or words over octets taken, held octets that are no
+    open element"; the open element's octets are no part of what was read.
+    """
+    answer, holds = carry.answer, carry.holds
+    if carry.form not in FORMS or carry.spare != 0:
+        return None
+    if carry.stopped == 1:
+        return Page(carry.form, final=answer) if holds == 0 and could_be_final(answer) else None
+    read = answer.place - holds
+    sums = answer.place <= MOST_ENTRIES and 0 <= read and answer.element <= read and answer.count <= read
+    if carry.stopped != 0 or answer.number != 0 or holds > MOST_HELD or not sums:
+        return None
+    opened = bytes(carry.held[:holds])
+    if opened and read_element(carry.form, opened, 0)[:3] != ("refused", 4, 0):
+        return None
+    return Page(carry.form, opened, before=(answer.element, read, answer.count))
+
+
+def fresh(form: int) -> Fed:
+    """ "A fresh carry holds no octets and has read no elements." "11 when made fresh". """
+    return Fed(carry_of(Page(form)), Answer(0), []) if form in FORMS else Fed(Carry(), Answer(11), [])
+
+
+def feed(carry: Carry, piece: bytes, ended: bool, room: int) -> Fed:
+    """What any carry answers, made by a call or not. 11, 9 and an answer that is repeated leave it as it was."""
+    page = page_of(carry)
+    if page is None:
+        return Fed(carry, Answer(11), [])
+    after, answer, words = fed(page, piece, ended, room)
+    as_it_was = page.final or answer.number == 9
+    return Fed(carry if as_it_was else carry_of(after), answer, words)
+
+
+def cut_page(form: int, octets: bytes, ends: Sequence[int]) -> Iterator[Fed]:
+    """What each call answers, with room enough, of a page within the limit that is cut at these places; the last call is told that it ends.
+
+    All of it is what reading the whole page gives, once: "However a page is cut, the words handed out up to the first refusal are those of
+    the elements before it in the whole page, and for a page within the size limit the final answer is the whole page's".
+    """
+    pieces, refusal = read_pieces(form, octets)
+    starts = [*(piece.place for piece in pieces), refusal.place if refusal else len(octets)]
+    words = [0, *itertools.accumulate(len(piece.words) for piece in pieces)]
+    before = 0
+    for call, end in enumerate(ends, 1):
+        ended = call == len(ends)
+        whole = bisect.bisect_right(starts, end) - 1
+        met = refusal if refusal and (ended or refusal.number != 4 and refusal.count < end) else None
+        answer = met or Answer(0, whole, end, words[whole])
+        opened = b"" if met else octets[starts[whole] : end]
+        held = (*opened, *[0] * (MOST_HELD - len(opened)))
+        carry = Carry(answer, holds=len(opened), form=form, stopped=int(ended or met is not None), held=held)
+        yield Fed(carry, answer, words_of(pieces[before:whole]))
+        before = whole
 
 
 # "Sixteen readings to prove": form, octets, and the words or the refusal's number, element, place and count.
@@ -795,6 +956,32 @@ def check_readings() -> None:
     for source, target, text, converted in CONVERSIONS:
         answer, octets = convert_text(source, target, bytes.fromhex(text))
         assert (answer if answer.number else bytes(octets).hex(" ").upper()) == converted, (source, target, text, answer, octets)
+
+
+def check_serial() -> None:
+    """A page cut at each octet, and octet by octet: its words and its final answer are the whole page's, by the page and by its carry."""
+    for form, text, _ in [*READINGS, (3, "41 CC C2 65 9B 30 3B 6D 42", None), (2, "41 19 42 65 19 24 42", None)]:
+        octets = bytes.fromhex(text)
+        whole = read_text(form, octets)[0]
+        words = words_of(read_pieces(form, octets)[0])
+        cuts = [[octets[:at], octets[at:]] for at in range(len(octets) + 1)] + [[octets[at : at + 1] for at in range(len(octets))]]
+        for pieces in ([*cut, b""] for cut in cuts):
+            page, carry, handed = Page(form), fresh(form).carry, []
+            ends = list(itertools.accumulate(map(len, pieces)))
+            for call, (piece, cut) in enumerate(zip(pieces, cut_page(form, octets, ends)), 1):
+                ended = call == len(pieces)
+                page, answer, some = fed(page, piece, ended, len(words))
+                assert feed(carry, piece, ended, len(words)) == cut == Fed(carry_of(page), answer, some), (form, text, pieces)
+                carry = cut.carry
+                handed += some
+            assert (answer, handed) == (whole, words), (form, text, pieces, answer, handed)
+    # 12 goes before 9 and before the fault, 9 before the fault; FRESH has no form yet.
+    near = Carry(Answer(0, 0, MOST_ENTRIES - 1, 0), form=1)
+    assert feed(near, b"A\x1B", True, 0)[1:] == (Answer(12), [])
+    assert feed(near, b"A", True, 0) == Fed(near, Answer(9, 0, 0, 1), [])
+    assert feed(near._replace(answer=Answer(0, 7, 7, 7)), b"A\x1B", False, 0).answer == Answer(9, 0, 0, 1)
+    assert feed(near._replace(answer=Answer(0, 7, 7, 7)), b"A\x1B", False, 1)[1:] == (Answer(2, 8, 8, 8), [0x41])
+    assert feed(Carry(), b"", False, 0) == fresh(0) == fresh(4) == Fed(Carry(), Answer(11), [])
 
 
 def check_texts() -> None:
@@ -849,4 +1036,5 @@ check_cases()
 
 if __name__ == "__main__":
     check_texts()
-    print("the sixteen readings hold, and so do the texts and the whole example of a case")
+    check_serial()
+    print("the sixteen readings hold, and so do the texts, the whole example of a case and pages in pieces")

@@ -13,7 +13,9 @@ from pathlib import Path
 ROOT = Path(__file__).resolve().parent.parent
 LAST = "oakentwirl"
 
-START = re.compile(r'^pub (?:extern "C" )?fn (\w+)\(')
+START = re.compile(r'^( *)pub (?:extern "C" )?fn (\w+)\(')
+# a call, of a function by its path or of a method
+CALL = re.compile(r"\s*(?:[\w:]+::|\w+\.)(\w+)\([^()]*\)\s*")
 
 
 def functions(text):
@@ -23,19 +25,20 @@ def functions(text):
         start = START.match(line)
         if not start:
             continue
+        indent = start.group(1)
         head, clauses, body = [line], [], []
         while not re.search(r"\)(?: -> [^()]+)?$", head[-1]):
             head.append(next(lines))
         for line in lines:
-            if line == "{":
+            if line == indent + "{":
                 break
             clauses.append(line)
         for line in lines:
-            if line == "}":
+            if line == indent + "}":
                 break
             body.append(line)
         signature = " ".join(head)[start.end():]
-        yield start.group(1), signature[:signature.rindex(")")], " ".join(" ".join(clauses).split()), " ".join(body)
+        yield start.group(2), signature[:signature.rindex(")")], " ".join(" ".join(clauses).split()), " ".join(body)
 
 
 def codec_crates():
@@ -53,15 +56,16 @@ def promise_of(function):
 def parameters(signature):
     for part in re.split(r",\s*(?![^\[]*\])", signature.strip().rstrip(",")):
         if part:
-            name, kind = part.split(":", 1)
+            name, _, kind = part.partition(":")
             yield name.strip(), kind.strip()
 
 
-def expected(promise, signature):
-    """The whole `ensures` that a function of this signature has."""
+def expected(promise, signature, body):
+    """The whole `ensures` that a function of this signature has. For C a truth is a number: the callee is lent whether it is not 0."""
     given, after = [], []
     for name, kind in parameters(signature):
-        given.append(f"(now ({name} .entry))" if kind.startswith("&") else name)
+        truth = f"(not (eqb {name} 0))" if re.search(rf"\b{name} != 0[,)]", body) else name
+        given.append(f"(now ({name} .entry))" if kind.startswith("&") else truth)
         if kind.startswith("&mut"):
             after.append(f"(now ({name} .exit))")
     return f"ensures {{ λ r. ⌜ {' '.join([promise, *given, 'r', *after])} ⌝ }}"
@@ -71,10 +75,11 @@ def faults(crate):
     proofs = "".join(p.read_text() for p in sorted((ROOT / "crates" / crate / "proofs").glob("*.antt")))
     for source in sorted((ROOT / "crates" / crate / "src").glob("*.rt")):
         for function, signature, clauses, body in functions(source.read_text()):
-            called = re.fullmatch(r"\s*\w+::(\w+)\([^()]*\)\s*", body) if crate == LAST else None
+            called = CALL.fullmatch(body) if crate == LAST else None
             promise = promise_of(called.group(1) if called else function)
-            if clauses != expected(promise, signature):
-                yield f"{crate}::{function}: {clauses or 'no ensures'}\n    and not {expected(promise, signature)}"
+            ensures = expected(promise, signature, body if called else "")
+            if clauses != ensures:
+                yield f"{crate}::{function}: {clauses or 'no ensures'}\n    and not {ensures}"
             elif crate != LAST and not re.search(rf"\bOnce(Both)? \(?{promise}\b", proofs):
                 yield f"{crate}::{function}: nothing says that {promise} allows one answer"
             else:

@@ -4,7 +4,8 @@
  *     convert SOURCE TARGET FILE OUTPUT
  *
  * SOURCE and TARGET are 1 (T51String in eight bits), 2 (in seven bits) or 3 (basic T.61). Exit status: 0, converted; 1, the text is
- * refused, and the message names the octet and its place; 2, anything else. OUTPUT is written only where the text is converted.
+ * refused, and the message names the octet and its place, except for 11 and 12, which are about none; 2, anything else. OUTPUT is written
+ * only where the text is converted.
  */
 #include <stdint.h>
 #include <stdio.h>

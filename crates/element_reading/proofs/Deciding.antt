@@ -6,8 +6,8 @@ use mathlib.Core.Logic.{_↔_, ⊎-elim}
 use mathlib.Core.Bool.{Bool}
 use mathlib.Core.List.{List, [], _∷_, _++_, append-assoc, append-nil}
 use native.Mathlib.Omega.{arith}
-use lib.ListN.{length, take, drop, length-append, take-append-drop}
-use lib.Seq.{take-append-seam, take-append-add, take-length}
+use lib.ListN.{length, take, drop, length-append, length-take, take-append-drop}
+use lib.Seq.{take-append-seam, take-append-add, take-length, take-all}
 use lib.Dec.{lit≤}
 use native.Mathlib.Numerals.{add-one}
 use Rattle.run.specs.Head.{Head, element, refused, none}
@@ -55,6 +55,14 @@ module _ (f : Form) where
   same-refusal (Refuses.high-follower {p} l t w e) n u = rw (seam p t l u) (Refuses.high-follower l u w e)
   same-refusal (Refuses.high-after-underline s e) n u = Refuses.high-after-underline s e
   same-refusal (Refuses.in-sequence s k) n u = sequence-stays s k n u
+
+  whole-again : (s t : List ℕ) (d : ℕ) → take (suc d) s ++ (drop (suc d) s ++ t) ≡ s ++ t
+  whole-again s t d = sym (append-assoc (take (suc d) s) (drop (suc d) s) t) ∙ ap (λ (x : List ℕ). x ++ t) (take-append-drop (suc d) s)
+
+  -- so a refusal other than 4 stays, whatever follows
+  pub refusal-stays : {s : List ℕ} {r d : ℕ} → Refuses f s r d → (r ≡ 4 → ⊥) → (u : List ℕ) → Refuses f (s ++ u) r d
+  refusal-stays {s} {r} {d} h n u =
+      subst (λ (l : List ℕ). Refuses f l r d) (whole-again s u d) (same-refusal h n (drop (suc d) s ++ u))
 
   -- ---- what stands before the deciding octet can be continued
 
@@ -161,9 +169,6 @@ module _ (f : Form) where
       let c : Continues f s = rw (take-length s) at (before-deciding k) in
       record { rest = c .0; whole = c .1; spells = c .2; some-read = read-some s 4 (length s) k; some-left = left-over (c .0) (c .2) k }
 
-  whole-again : (s t : List ℕ) (d : ℕ) → take (suc d) s ++ (drop (suc d) s ++ t) ≡ s ++ t
-  whole-again s t d = sym (append-assoc (take (suc d) s) (drop (suc d) s) t) ∙ ap (λ (x : List ℕ). x ++ t) (take-append-drop (suc d) s)
-
   cut-by : (s : List ℕ) → Cut-short f s → (h : Head Element) → headIn f s ≡ h → Refuses f s 4 (length s)
   cut-by s c (element e k) q =
       let b = reads f .found s e k q in
@@ -185,9 +190,7 @@ module _ (f : Form) where
 
       other : (r ≡ 4 → ⊥) → ⊥
       other n =
-          let p =
-          refuses-exactly-by f (take (suc d) s ++ (drop (suc d) s ++ c .rest)) r d .1 (same-refusal k n (drop (suc d) s ++ c .rest)) in
-          let z = ap (headIn f) (whole-again s (c .rest) d) in
+          let p = refuses-exactly-by f (s ++ c .rest) r d .1 (refusal-stays k n (c .rest)) in
           let y = spelt-head (c .spells) in
           let w : _≡_ {A = ℕ} 0 1 = cc in
           omega arith
@@ -195,3 +198,31 @@ module _ (f : Form) where
 
   pub cut-exactly : (s : List ℕ) → Refuses f s 4 (length s) ↔ Cut-short f s
   cut-exactly s = (is-cut s, λ c. cut-by s c (headIn f s) refl)
+
+  -- ---- forty octets are enough: what stands at the head of a text is what stands at the head of its first forty octets
+  pub forty : (s : List ℕ) → headIn f s ≡ headIn f (take 40 s)
+  forty s = go (headIn f (take 40 s)) refl
+    where
+      whole : take 40 s ++ drop 40 s ≡ s
+      whole = take-append-drop 40 s
+
+      few : length (take 40 s) ≤ 39 → take 40 s ≡ s
+      few h = take-all 40 s (omega (arith, h, length-take 40 s))
+
+      go : (x : Head Element) → headIn f (take 40 s) ≡ x → headIn f s ≡ headIn f (take 40 s)
+      go (element e k) q =
+          let b = reads f .found (take 40 s) e k q in
+          ap (headIn f)
+          (sym whole ∙ ap (λ (l : List ℕ). l ++ drop 40 s) (b .whole) ∙ append-assoc (b .front) (b .rest) (drop 40 s))
+          ∙ reads f .finds (b .front) (b .rest ++ drop 40 s) e (b .spells)
+          ∙ ap (element e) (sym (b .size))
+          ∙ sym q
+      go (refused r d) q =
+          let k = refuses-exactly-by f (take 40 s) r d .0 q in
+          ⊎-elim
+          (λ e. ap (headIn f) (sym (few (unfinished (subst (λ (n : ℕ). Refuses f (take 40 s) n d) e k) .1))))
+          (λ n. ap (headIn f) (sym whole) ∙ refuses-exactly-by f (take 40 s ++ drop 40 s) r d .1 (refusal-stays k n (drop 40 s)) ∙ sym q)
+          (is-or 4 r)
+      go none q =
+          let e : take 40 s ≡ [] = reads f .goes (take 40 s) q in
+          ap (headIn f) (sym (few (omega (arith, ap length e))))

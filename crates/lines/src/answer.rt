@@ -83,8 +83,8 @@ pub fn put_after_space(out: &mut [u8], at: usize, place: usize) -> usize {
 }
 
 // The four numbers.
-pub fn put_numbers(out: &mut [u8], answer: Answer) -> usize {
-    let first = put_number(out, 0, answer.number);
+pub fn put_numbers(out: &mut [u8], at: usize, answer: Answer) -> usize {
+    let first = put_number(out, at, answer.number);
     let second = put_after_space(out, first, answer.element);
     let third = put_after_space(out, second, answer.place);
     put_after_space(out, third, answer.count)
@@ -92,7 +92,7 @@ pub fn put_numbers(out: &mut [u8], answer: Answer) -> usize {
 
 // The four numbers, and a comma.
 pub fn put_answer(out: &mut [u8], answer: Answer) -> usize {
-    let next = put_numbers(out, answer);
+    let next = put_numbers(out, 0, answer);
     put(out, next, b',')
 }
 

@@ -1,8 +1,13 @@
 // The library for C: each function under its plain name, as include/oakentwirl.h declares it, over the proved function that does the work.
 use run::Answer;
+use serial::Carry;
+use serial::Fed;
 use tlx::CaseAnswer;
+ghost use mathlib.Core.Bool.{not};
+ghost use lib.Dec.{eqb};
 ghost use Rattle.text_reading.specs.Promises.{ReadPromise};
 ghost use Rattle.text.specs.Promises.{WritePromise, ConvertPromise};
+ghost use Rattle.serial.specs.Promises.{FreshPromise, FeedPromise};
 ghost use Rattle.tlx.specs.Promises.{ReadCasePromise};
 ghost use Rattle.case_writing.specs.Promises.{WriteCasePromise};
 
@@ -28,6 +33,22 @@ pub extern "C" fn oak_convert(source: u32, target: u32, text: &[u8], out: &mut [
     ensures { λ r. ⌜ ConvertPromise source target (now (text .entry)) (now (out .entry)) r (now (out .exit)) ⌝ }
 {
     text::convert(source, target, text, out)
+}
+
+// A fresh carry of a form, for a page off the serial lead.
+#[no_mangle]
+pub extern "C" fn oak_fresh(form: u32) -> Fed
+    ensures { λ r. ⌜ FreshPromise form r ⌝ }
+{
+    Carry::fresh(form)
+}
+
+// Takes the next piece of a page; `ended` is 0 where more comes.
+#[no_mangle]
+pub extern "C" fn oak_feed(carry: Carry, piece: &[u8], ended: u32, words: &mut [u32]) -> Fed
+    ensures { λ r. ⌜ FeedPromise carry (now (piece .entry)) (not (eqb ended 0)) (now (words .entry)) r (now (words .exit)) ⌝ }
+{
+    carry.feed(piece, ended != 0, words)
 }
 
 // Reads a TLX case.

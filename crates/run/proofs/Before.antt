@@ -1,20 +1,22 @@
 -- The elements before the end of a list or its first fault: exactly those of the run that stands there, each where its piece begins.
 -- Assumes nothing.
-use Prim.Native.Nat.{ℕ, zero, suc, _+_, _-_}
+use Prim.Native.Nat.{ℕ, zero, suc, _+_, _-_, _≤_}
 use mathlib.Core.Path.{_≡_, refl, sym, ap, ap₂, _∙_, subst}
 use mathlib.Core.List.{List, [], _∷_, _++_, map, append-assoc, append-nil, List·Memᴰ, List·Memᴰ·not-nil, List·Memᴰ·cases-cons}
 use mathlib.Core.Logic.{⊎-elim}
 use native.Mathlib.Nat.{add-zero, zero-add, add-suc, add-assoc}
 use native.Mathlib.Omega.{arith}
 use lib.ListN.{length, take, drop, length-append}
-use lib.Seq.{take-append-seam, drop-append-seam}
-use Rattle.run.specs.Loops.{Bounded, Passed}
+use lib.Seq.{take-append-seam, drop-append-seam, take-all}
+use Rattle.run.specs.Loops.{Bounded, Passed, Counted, Taken}
 use Rattle.run.specs.Head.{Head, element, refused, none, Outcome, accepted, refusal, outcome}
 use Rattle.run.specs.Grammar.{Run, done, more, Reads, Stopped}
-use Rattle.run.specs.Answers.{given}
+use Rattle.run.specs.Answers.{given, roomyAnswer}
+use Rattle.run.specs.Put.{Put}
 use Rattle.run.specs.Before.{Standing, movedUp, whats, standing, Piece, thenBefore, beforeFrom, before, Front}
-use Rattle.run.proofs.Outcomes.{accepts, refuses}
-use Rattle.run.proofs.Loops.{halt}
+use Rattle.run.proofs.Outcomes.{accepts, refuses, placed}
+use Rattle.run.proofs.Loops.{finish, halt}
+use Rattle.run.proofs.Puts.{put-as}
 
 -- ---- where the pieces of a run begin
 
@@ -188,3 +190,39 @@ module _ {X A : Type 0} {head : List X → Head A} {S : List X → A → Type 0}
   passed-before bounded s {at} {es} {r} {d} was q =
       let f = before-refused s r (length es) at (at + d) (halt laws bounded s was q) in
       same-elements (sym (f .accepts-front) ∙ was .front)
+
+  -- So what it has counted there, and at the end, is what the elements before give.
+  pub counted-stop : {gives : A → List ℕ} {most : ℕ} (bounded : Bounded S gives most) (s : List X) {at n count r d : ℕ}
+      → Counted head gives most s at n count → head (drop at s) ≡ refused r d → count ≡ length (given gives (whats (before head s)))
+  counted-stop {gives} bounded s was q =
+      was .counted ∙ ap (λ (es : List A). length (given gives es)) (sym (passed-before bounded s (was .passed) q))
+
+  pub counted-end : {gives : A → List ℕ} {most : ℕ} (bounded : Bounded S gives most) (s : List X) {at n count : ℕ}
+      → Counted head gives most s at n count → length s ≤ at → count ≡ length (given gives (whats (before head s)))
+  counted-end {gives} bounded s was h =
+      was .counted ∙ ap length (sym (given-before gives s (was .es) (finish laws bounded s (was .passed) h)))
+
+  -- And what it has put, if it puts on the way, is what they give.
+  pub taken-stop : {gives : A → List ℕ} {most : ℕ} (bounded : Bounded S gives most) (s : List X) {at n o r d : ℕ} {l₀ l : List ℕ}
+      → Taken head gives most s l₀ at n o l → head (drop at s) ≡ refused r d → Put l₀ 0 (given gives (whats (before head s))) l o
+  taken-stop {gives} bounded s was q = put-as (ap (given gives) (sym (passed-before bounded s (was .counted .passed) q))) (was .put)
+
+  pub taken-end : {gives : A → List ℕ} {most : ℕ} (bounded : Bounded S gives most) (s : List X) {at n o : ℕ} {l₀ l : List ℕ}
+      → Taken head gives most s l₀ at n o l → length s ≤ at → Put l₀ 0 (given gives (whats (before head s))) l o
+  taken-end {gives} bounded s was h =
+      put-as (sym (given-before gives s (was .counted .es) (finish laws bounded s (was .counted .passed) h))) (was .put)
+
+  -- How far a list is read: up to its end, or up to the first fault. What stands before is accepted, with the elements before.
+  pub front-accepted : (gives : A → List ℕ) (s : List X) →
+      let p = roomyAnswer gives (length s) (outcome head s) .place in
+      (p ≤ length s) × (outcome head (take p s) ≡ accepted (whats (before head s)))
+  front-accepted gives s = go (outcome head s) refl
+    where
+      go : (x : Outcome A) → outcome head s ≡ x →
+          let p = roomyAnswer gives (length s) x .place in
+          (p ≤ length s) × (outcome head (take p s) ≡ accepted (whats (before head s)))
+      go (accepted es) q = (
+        omega arith,
+        ap (outcome head) (take-all (length s) s (omega arith)) ∙ q ∙ ap accepted (sym (before-accepted s es q)),
+      )
+      go (refusal r n p d) q = (placed laws s r n p d q .place, before-refused s r n p d q .accepts-front)

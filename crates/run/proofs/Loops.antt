@@ -14,7 +14,7 @@ use Rattle.run.specs.Grammar.{Run, done, more, Reads}
 use Rattle.run.specs.declared.Answer.{Answer}
 use Rattle.run.specs.Answers.{answer, countOf, given, writtenOf, roomyAnswer, roomFor}
 use Rattle.run.specs.Put.{Put}
-use Rattle.run.specs.Loops.{Bounded, Few, Passed, Counted, Filled}
+use Rattle.run.specs.Loops.{Bounded, Few, Passed, Counted, Filled, Taken}
 use Rattle.run.proofs.Outcomes.{outcome-none, outcome-stop, accepts, joined, joined-accepted}
 use Rattle.run.proofs.Answers.{given-more, given-length, given-front}
 use Rattle.run.proofs.Puts.{put-none, put-length, put-given, put-given-one, put-given-all}
@@ -226,3 +226,27 @@ module _ {X A : Type 0} {head : List X → Head A} {S : List X → A → Type 0}
     -- an accepted list has no refusal on the way
     pub fill-never : {r d : ℕ} → head (drop at s) ≡ refused r d → ⊥
     fill-never q = rw (halt laws bounded s (was .passed) q) at room
+
+-- ---- both in one pass
+
+module _ {X A : Type 0} {head : List X → Head A} {S : List X → A → Type 0} (laws : Reads head S) {gives : A → List ℕ} {most : ℕ}
+    (bounded : Bounded S gives most) (s : List X) (l₀ : List ℕ) where
+  pub take-start : Taken head gives most s l₀ 0 0 0 l₀
+  unfolding given count-start
+  take-start = record { counted = count-start laws bounded s; put = put-none l₀ 0 }
+
+  pub take-turn : {at n o next o′ k : ℕ} {l l′ : List ℕ} {e : A} → Taken head gives most s l₀ at n o l → head (drop at s) ≡ element e k
+      → next ≡ at + k → Put l o (gives e) l′ o′ → Taken head gives most s l₀ next (n + 1) o′ l′
+  take-turn {e = e} was q z p =
+      let es = was .counted .es in
+      record {
+        counted =
+            record {
+              es = es ++ (e ∷ []);
+              passed =
+                  subst (λ (i : ℕ). Passed head gives most s i (es ++ (e ∷ []))) (sym z) (turn laws bounded s (was .counted .passed) q);
+              number = omega (arith, was .counted .number, length-append es (e ∷ []));
+              counted = omega (arith, was .counted .counted, given-more gives es e, p .place);
+            };
+        put = put-given-one gives es e (was .put) p;
+      }

@@ -57,6 +57,23 @@ stopped-by h k =
       deciding = h .deciding;
     }
 
+-- a stop behind a run: the elements joined, the numbers moved up
+abbrev pub stopped-behind : {X A : Type 0} {S : List X → A → Type 0} {H : List X → ℕ → Type 0} {front s : List X} {es : List A} {n p d : ℕ}
+    → RunOf S front es → Stopped S H s n p d → Stopped S H (front ++ s) (length es + n) (length front + p) (length front + d)
+stopped-behind {X} {front = front} {es = es} r h =
+    record {
+      front = front ++ h .front;
+      rest = h .rest;
+      elements = es ++ h .elements;
+      behind = h .behind;
+      whole = ap (λ (u : List X). front ++ u) (h .whole) ∙ sym (append-assoc front (h .front) (h .rest));
+      run = run-append (r .1) (h .run .1);
+      here = h .here;
+      element-number = omega (arith, h .element-number, length-append es (h .elements));
+      first-place = omega (arith, h .first-place, length-append front (h .front));
+      deciding = omega (arith, h .deciding, length-append front (h .front));
+    }
+
 module _ {X A : Type 0} {head : List X → Head A} {S : List X → A → Type 0} (laws : Reads head S) where
   pub outcome-none : outcome head [] ≡ accepted []
   unfolding outcome from

@@ -3,12 +3,16 @@
 use Prim.Native.Nat.{ℕ, suc, _+_, _-_, _≤_, _<_}
 use mathlib.Core.Path.{_≡_, refl, sym, ap, ap₂, subst, _∙_}
 use mathlib.Core.List.{List, [], _∷_, _++_, append-assoc, append-nil}
+use mathlib.Core.Bool.{Bool, true, false}
 use native.Mathlib.Nat.{add-zero, zero-add}
+use native.Mathlib.Numerals.{add-one}
 use native.Mathlib.Omega.{arith}
-use lib.ListN.{length, set, take, drop, length-append, length-drop, drop-of-length-le}
-use lib.Seq.{sets, sets-eq, length-sets, drop-drop, take-all}
+use lib.ListN.{length, getD, set, take, drop, length-append, length-drop, drop-of-length-le}
+use lib.Seq.{sets, sets-eq, length-sets, length-take-le, drop-append-seam, drop-drop, take-all, take-suc, take-append-seam}
+use lib.Dec.{leb}
 use borrow.Author.Tests.{le-leb, lt-leb}
 use borrow.Rule.Slice.PartMut.{putMid}
+use Rattle.run.specs.Choice.{pick}
 use Rattle.run.specs.Put.{Put, whatFits}
 use Rattle.run.specs.Head.{Outcome, accepted}
 use Rattle.run.specs.Answers.{given, over, writtenOf, roomFor}
@@ -43,9 +47,33 @@ put-as {a} {b} {i = i} {j = j} e p = subst (λ (l : List ℕ). Put a i l b j) e 
 pub put-over : {a b xs : List ℕ} {j : ℕ} → Put a 0 xs b j → length xs ≤ length a → b ≡ over a xs
 put-over {a} {b} {xs} p h = p .holds ∙ sets-eq xs a 0 (omega arith) ∙ rw zero-add
 
+-- and these are its first
+pub put-taken : {a b xs : List ℕ} {j : ℕ} → Put a 0 xs b j → length xs ≤ length a → take j b ≡ xs
+put-taken {a} {b} {xs} {j} p h =
+    let n : j ≡ length xs = omega (arith, p .place) in
+    ap₂ take n (put-over p h) ∙ take-append-seam xs (drop (length xs) a)
+
 -- what there is room for after a writing
 pub room-rest : {a b : List ℕ} {i j : ℕ} (xs ys : List ℕ) → Put a i xs b j → i + length (xs ++ ys) ≤ length a → j + length ys ≤ length b
 room-rest xs ys p h = omega (arith, length-append xs ys, p .place, put-length p)
+
+-- what stands before something that was put, put after it
+pub put-before : (a : List ℕ) {b c : List ℕ} (xs ys : List ℕ) → length (xs ++ ys) ≤ length a → b ≡ sets a (length xs) ys → c ≡ sets b 0 xs
+    → c ≡ sets a 0 (xs ++ ys)
+put-before a {b} {c} xs ys h e q =
+    let l = length-append xs ys in
+    let n : length b ≡ length a = ap length e ∙ length-sets a (length xs) ys in
+    let behind : drop (length xs) b ≡ ys ++ drop (length xs + length ys) a =
+    ap (drop (length xs))
+    (e ∙ sets-eq ys a (length xs) (omega (arith, l, h)) ∙ append-assoc (take (length xs) a) ys (drop (length xs + length ys) a))
+    ∙ ap (λ (i : ℕ). drop i (take (length xs) a ++ (ys ++ drop (length xs + length ys) a))) (sym (length-take-le (length xs) a (omega (arith, l, h))))
+    ∙ drop-append-seam (take (length xs) a) (ys ++ drop (length xs + length ys) a) in
+    q
+    ∙ sets-eq xs b 0 (omega (arith, l, h, n))
+    ∙ ap (λ (u : List ℕ). xs ++ u) (ap (λ (i : ℕ). drop i b) (zero-add (length xs)) ∙ behind)
+    ∙ sym (append-assoc xs ys (drop (length xs + length ys) a))
+    ∙ ap (λ (i : ℕ). (xs ++ ys) ++ drop i a) (sym l ∙ sym (zero-add (length (xs ++ ys))))
+    ∙ sym (sets-eq (xs ++ ys) a 0 (omega (arith, h)))
 
 -- ---- what elements give, put
 
@@ -98,6 +126,13 @@ all-fit out at entries h = rw (le-leb (at + length entries) (length out) h)
 pub none-fits : (out : List ℕ) (at : ℕ) (entries : List ℕ) → length out < at + length entries → whatFits out at entries ≡ []
 none-fits out at entries h = rw (lt-leb (at + length entries) (length out) h)
 
+pub nothing-fits : (out : List ℕ) (at : ℕ) → whatFits out at [] ≡ []
+nothing-fits out at = by-test (leb (at + 0) (length out))
+  where
+    by-test : (t : Bool) → _≡_ {A = List ℕ} (pick t [] []) []
+    by-test true = refl
+    by-test false = refl
+
 -- what has room is written
 pub put-fits : {a b : List ℕ} {i j : ℕ} (entries : List ℕ) → i + length entries ≤ length a → Put a i (whatFits a i entries) b j
     → Put a i entries b j
@@ -126,3 +161,11 @@ entry-fits l at o h = put-as (sym (all-fit l at (o ∷ []) (omega arith))) put-e
 
 pub entry-lost : (l : List ℕ) (at o : ℕ) → length l ≤ at → Put l at (whatFits l at (o ∷ [])) l at
 entry-lost l at o h = put-as (sym (none-fits l at (o ∷ []) (omega arith))) (put-none l at)
+
+-- the first of some entries, and then the next of them
+pub put-next : {a b : List ℕ} {at : ℕ} (s : List ℕ) (i : ℕ) → i < length s → Put a at (take i s) b (at + i)
+    → Put a at (take (i + 1) s) (set b (at + i) (getD s i 0)) (at + (i + 1))
+put-next {b = b} {at = at} s i h p =
+    let x : ℕ = getD s i 0 in
+    let one : Put b (at + i) (x ∷ []) (set b (at + i) x) (at + (i + 1)) = record { place = omega arith; holds = refl } in
+    put-as (sym (rw (add-one, take-suc s i 0))) (put-both p one)

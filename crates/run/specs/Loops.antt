@@ -43,6 +43,12 @@ pub record Filled {X A : Type 0} (head : List X → Head A) (gives : A → List 
   pub passed : Passed head gives most s at es
   pub put : Put l₀ 0 (given gives es) l o
 
+-- both in one pass
+pub record Taken {X A : Type 0} (head : List X → Head A) (gives : A → List ℕ) (most : ℕ) (s : List X) (l₀ : List ℕ) (at n o : ℕ)
+    (l : List ℕ) : Type 0 where
+  pub counted : Counted head gives most s at n o
+  pub put : Put l₀ 0 (given gives (counted .es)) l o
+
 -- ---- from the first pass's answer to the whole one
 
 -- a refusal has a number

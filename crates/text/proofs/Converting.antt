@@ -25,7 +25,8 @@ use Rattle.element_reading.specs.ElementHead.{headIn}
 use Rattle.element_reading.proofs.Reader.{reads, begins-head}
 use Rattle.element_spelling.specs.ElementOctets.{CanonicalElement, Held, spellElement}
 use Rattle.element_spelling.proofs.Writer.{canonical-given, canonical-some, read-held}
-use Rattle.text_reading.specs.ReadAnswers.{readIn, readAnswer}
+use Rattle.text_loops.specs.Fronts.{readIn}
+use Rattle.text_reading.specs.ReadAnswers.{readAnswer}
 use Rattle.text_reading.specs.ReadingNumbers.{limit}
 use Rattle.text_reading.proofs.Edges.{a-form, within}
 use Rattle.text_reading.specs.LawWords.{Meets}

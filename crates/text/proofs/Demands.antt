@@ -26,7 +26,6 @@ use Rattle.sorts.specs.declared.FormFound.{FormFound}
 use Rattle.sorts.specs.declared.FormFound.the-variants.{Is, Nothing}
 use Rattle.sorts.specs.Forms.{formOf, inForm}
 use Rattle.element_words.specs.declared.Element.{Element}
-use Rattle.element_reading.specs.declared.Step.the-variants.{End}
 use Rattle.element_words.specs.Words.{wordsOf}
 use Rattle.element_reading.specs.Grammar.{Spells, Refuses}
 use Rattle.element_reading.specs.ElementNumbers.{stepAnswer, stepWords, ElementRow}
@@ -34,14 +33,16 @@ use Rattle.element_spelling.specs.ElementOctets.{CanonicalElement, Held, Writes
 use Rattle.element_reading.proofs.Reader.{reads}
 use Rattle.element_reading.proofs.Places.{reading-number}
 use Rattle.element_spelling.proofs.Writer.{canonical-spells, one-spelling, read-held, writer-reads, writer-refuses-exactly}
-use Rattle.text_reading.specs.ReadAnswers.{readIn, within-limit, readAnswer, readWords, loneStep}
+use Rattle.text_loops.specs.Fronts.{readIn}
+use Rattle.text_reading.specs.ReadAnswers.{within-limit, readAnswer, readWords, loneStep}
 use Rattle.text_reading.specs.Promises.{MeasurePromise, ReadPromise, ReadElementPromise}
 use Rattle.text_reading.specs.ReadingNumbers.{limit, Answered, Formed, Tells, ReadingFault, ReadTable, LoneTable}
 use Rattle.text_reading.proofs.Edges.{a-form}
 use Rattle.text_reading.specs.LawWords.{Meets}
 use Rattle.text_reading.proofs.ByTable.{by-table, by-form, in-its-form, no-form-exactly, tells, kept-in-form}
-use Rattle.text_reading.proofs.Steps.{count-is-place}
-use Rattle.text_reading.proofs.ReadTexts.{read-meets, words-fit}
+use Rattle.text_loops.proofs.Steps.{count-is-place}
+use Rattle.text_loops.proofs.FewWords.{words-fit}
+use Rattle.text_reading.proofs.ReadTexts.{read-meets}
 use Rattle.text_reading.proofs.Lone.{lone-exactly}
 use Rattle.text_reading.proofs.OneAnswer as reading
 use Rattle.text.specs.Outcomes.{Respells, writeIn, convertIn}
@@ -294,9 +295,9 @@ pub one-answer : (form target at : ℕ) (text words out : List ℕ)
     × OnceBoth (WritePromise form words out)
     × OnceBoth (ConvertPromise form target text out)
 one-answer form target at text words out =
-    let read = reading.one-answer form 0 at text words End in
+    let read = reading.one-answer form at text words in
     let write = writing.one-answer form target text words out in
-    (read .1, read .2, read .3, write .0, write .1)
+    (read .0, read .1, read .2, write .0, write .1)
 
 -- ======== Demand 2: what is accepted, and what it means; canonical spelling
 

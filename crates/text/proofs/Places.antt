@@ -23,7 +23,7 @@ use Rattle.element_words.specs.Words.{wordHead, meantOf, meantAt}
 use Rattle.element_words.proofs.Words.{words-read, words-refused}
 use Rattle.element_reading.specs.declared.Step.the-variants.{Element as Read}
 use Rattle.element_reading.specs.ElementHead.{headSort, headIn, stepOf, stepAt}
-use Rattle.text_reading.specs.LawWords.{HereStands}
+use Rattle.text_loops.specs.LawWords.{HereStands}
 
 -- ---- words
 

@@ -12,7 +12,7 @@ use Rattle.element_words.specs.declared.Element.{Element}
 use Rattle.element_reading.specs.Grammar.{Spells}
 use Rattle.element_reading.specs.ElementHead.{headIn}
 use Rattle.element_spelling.specs.ElementOctets.{CanonicalElement, Held, spellElement, spellHead}
-use Rattle.text_reading.specs.ReadAnswers.{readIn}
+use Rattle.text_loops.specs.Fronts.{readIn}
 
 -- words, written in a form: the octets of each element, or the first refusal
 abbrev pub writeIn : Form → List ℕ → Outcome (List ℕ)

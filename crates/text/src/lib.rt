@@ -102,7 +102,7 @@ fn measure_convert(source: Form, target: Form, codes: &[u16; 256], text: &[u8]) 
     while at < text.len() {
         let step = step_in(source, codes, text, at);
         let Step::Element(e, next) = step else {
-            return text_reading::step_answer(step, n);
+            return text_loops::step_answer(step, n);
         };
         let size = element_spelling::spelt_size(target, e);
         if size == 0 {

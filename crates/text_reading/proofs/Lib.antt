@@ -1,7 +1,6 @@
 pub mod Edges
 pub mod ByTable
 pub mod ReadTexts
-pub mod Steps
-mod RunsAndPairs
+mod Wholes
 pub mod Lone
 pub mod OneAnswer

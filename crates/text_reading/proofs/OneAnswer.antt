@@ -5,17 +5,14 @@ use mathlib.Core.List.{List}
 use lib.ListN.{length}
 use Rattle.run.specs.OneAnswer.{Once, OnceBoth}
 use Rattle.run.proofs.OneAnswer.{once, once-both}
-use Rattle.element_reading.specs.declared.Step.{Step}
-use Rattle.text_reading.specs.ReadAnswers.{readAnswer, readWords, loneStep, stepAnswerAfter}
-use Rattle.text_reading.specs.Promises.{StepAnswerPromise, MeasurePromise, ReadPromise, ReadElementPromise}
+use Rattle.text_reading.specs.ReadAnswers.{readAnswer, readWords, loneStep}
+use Rattle.text_reading.specs.Promises.{MeasurePromise, ReadPromise, ReadElementPromise}
 
-pub one-answer : (form n at : ℕ) (text words : List ℕ) (step : Step)
-    → Once (StepAnswerPromise step n)
-    × Once (MeasurePromise form text)
+pub one-answer : (form at : ℕ) (text words : List ℕ)
+    → Once (MeasurePromise form text)
     × OnceBoth (ReadPromise form text words)
     × Once (ReadElementPromise form text at)
-one-answer form n at text words step = (
-  once (StepAnswerPromise step n) (stepAnswerAfter n step) (λ r p. p),
+one-answer form at text words = (
   once (MeasurePromise form text) (readAnswer form text (length text)) (λ r p. p),
   once-both (ReadPromise form text words) (readAnswer form text (length words)) (readWords form text words) (λ r after p. p),
   once (ReadElementPromise form text at) (loneStep form text at) (λ r p. p .0),

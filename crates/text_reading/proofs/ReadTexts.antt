@@ -1,15 +1,14 @@
--- A text, read: accepted and refused exactly as the grammar says; no octet gives more than one word; and what measuring it answers.
+-- A text, read: accepted and refused exactly as the grammar says; and what measuring it answers.
 -- Assumes nothing.
 use Prim.Native.Nat.{ℕ, _≤_}
 use mathlib.Core.Path.{_≡_, sym, _∙_}
 use mathlib.Core.Logic.{_↔_}
 use mathlib.Core.List.{List, _++_}
-use native.Mathlib.Omega.{arith}
-use lib.ListN.{length, length-append}
-use Rattle.run.specs.Loops.{Bounded, WholeAnswer}
+use lib.ListN.{length}
+use Rattle.run.specs.Loops.{WholeAnswer}
 use Rattle.run.specs.Head.{accepted, refusal, join}
-use Rattle.run.specs.Grammar.{Run, RunOf, done, more}
-use Rattle.run.specs.Answers.{given, answerOf, roomyAnswer}
+use Rattle.run.specs.Grammar.{RunOf}
+use Rattle.run.specs.Answers.{answerOf, roomyAnswer}
 use Rattle.run.proofs.Outcomes as outcomes
 use Rattle.run.proofs.Rooms.{as-roomy}
 use Rattle.sorts.specs.declared.Form.{Form}
@@ -19,9 +18,9 @@ use Rattle.element_words.specs.declared.Element.{Element}
 use Rattle.element_words.specs.Words.{wordsOf}
 use Rattle.element_reading.specs.Grammar.{Spells, Refuses}
 use Rattle.element_reading.proofs.Reader.{reads, refuses-exactly-by}
-use Rattle.element_reading.proofs.Sizes.{words-few}
-use Rattle.element_words.proofs.Words.{words-short}
-use Rattle.text_reading.specs.ReadAnswers.{readIn, readAnswer, readWords}
+use Rattle.text_loops.specs.Fronts.{readIn}
+use Rattle.text_loops.proofs.FewWords.{words-fit}
+use Rattle.text_reading.specs.ReadAnswers.{readAnswer, readWords}
 use Rattle.text_reading.specs.ReadingNumbers.{limit, ReadingFault}
 use Rattle.text_reading.specs.LawWords.{Meets}
 use Rattle.text_reading.proofs.Edges.{a-form, within}
@@ -37,10 +36,6 @@ module _ (f : Form) where
   pub read-meets : (text : List ℕ) → Meets (RunOf (Spells f) text) (ReadingFault f text) (readIn f text)
   read-meets text = record { runs = accepted-exactly text; faults = refused-exactly text }
 
-  -- an element has at most 34 words
-  pub few-words : Bounded (Spells f) wordsOf 34
-  few-words = record { bound = λ p e h. words-short e }
-
   -- After an accepted text the rest is read as by itself, moved up.
   pub joined : (s t : List ℕ) (es : List Element) → readIn f s ≡ accepted es → readIn f (s ++ t) ≡ join es (length s) (readIn f t)
   joined = outcomes.joined (reads f)
@@ -50,14 +45,6 @@ module _ (f : Form) where
       → WholeAnswer wordsOf (length text) words (readIn f text) (readAnswer form text (length words)) (readWords form text words)
   unfolding readAnswer readWords
   read-answers form q text l words = (sym (a-form _ _ _ _ _ q (within text _ _ l)), sym (a-form _ _ _ _ _ q (within text _ _ l)))
-
--- No octet gives more than one word: room for as many words as the text has octets is never short.
-pub words-fit : {f : Form} {text : List ℕ} {ps : List (List ℕ)} {es : List Element} → Run (Spells f) text ps es
-    → length (given wordsOf es) ≤ length text
-unfolding given
-words-fit done = omega arith
-words-fit (more {p} {s} {e = e} {es = es} sp r) =
-    omega (arith, words-fit r, words-few sp, length-append p s, length-append (wordsOf e) (given wordsOf es))
 
 -- Measuring, which is reading with room enough, answers what is counted.
 pub enough : (f : Form) (text : List ℕ)

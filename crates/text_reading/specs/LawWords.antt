@@ -1,21 +1,17 @@
--- Parts of the code: the words in which the laws of this crate (proofs/ByTable, Edges, Steps, ReadTexts) are stated, beside those of the
+-- Parts of the code: the words in which the laws of this crate (proofs/ByTable, Edges, ReadTexts) are stated, beside those of the
 -- table of numbers; no promise and no statement of a theorem of record has them.
 -- Assumes nothing.
-use Prim.Native.Nat.{ℕ, _+_, _<_}
+use Prim.Native.Nat.{ℕ, _<_}
 use mathlib.Core.Path.{_≡_}
 use mathlib.Core.Logic.{_↔_}
 use mathlib.Core.List.{List}
-use lib.ListN.{drop}
-use Rattle.run.specs.Head.{Head, element, refused, Outcome, accepted, refusal}
+use Rattle.run.specs.Head.{Outcome, accepted, refusal}
 use Rattle.run.specs.declared.Answer.{Answer}
-use Rattle.run.specs.Answers.{answer, bare, countOf}
+use Rattle.run.specs.Answers.{bare}
 use Rattle.sorts.specs.declared.Form.{Form}
 use Rattle.sorts.specs.declared.FormFound.{FormFound}
 use Rattle.sorts.specs.Forms.{inForm}
-use Rattle.element_words.specs.declared.Element.{Element}
-use Rattle.element_reading.specs.declared.Step.{Step}
-use Rattle.element_reading.specs.ElementHead.{headIn}
-use Rattle.text_reading.specs.ReadAnswers.{within-limit, stepAnswerAfter}
+use Rattle.text_reading.specs.ReadAnswers.{within-limit}
 
 -- an outcome is accepted exactly by Runs, and refused exactly by Fault
 pub record Meets {A : Type 0} (Runs : List A → Type 0) (Fault : ℕ → ℕ → ℕ → ℕ → Type 0) (x : Outcome A) : Type 0 where
@@ -31,16 +27,3 @@ abbrev pub Asked : FormFound → List ℕ → List ℕ → (Form → Answer) →
 Asked found input buffer promised held r after =
     (r ≡ inForm found (bare 11) (λ f. within-limit input (bare 12) (promised f)))
     × (after ≡ inForm found buffer (λ f. within-limit input buffer (held f)))
-
--- the element e stands at the head, and the place next is the one after it
-pub record HereStands (h : Head Element) (at : ℕ) (e : Element) (next : ℕ) : Type 0 where
-  pub size : ℕ
-  pub here : h ≡ element e size
-  pub onward : next ≡ at + size
-
--- a refusal stands at the place, and the step x answers it, after n elements
-pub record RefusedStep (f : Form) (text : List ℕ) (at : ℕ) (x : Step) : Type 0 where
-  pub number : ℕ
-  pub behind : ℕ
-  pub here : headIn f (drop at text) ≡ refused number behind
-  pub answers : (n : ℕ) → _≡_ {A = Answer} (stepAnswerAfter n x) (answer number n at (countOf number (at + behind)))

@@ -8,12 +8,8 @@ use lib.ListN.{length}
 use Rattle.run.specs.declared.Answer.{Answer}
 use Rattle.element_reading.specs.declared.Step.{Step}
 use Rattle.element_reading.specs.ElementNumbers.{stepAnswer, stepWords}
-use Rattle.text_reading.specs.ReadAnswers.{readAnswer, readWords, loneStep, stepAnswerAfter}
+use Rattle.text_reading.specs.ReadAnswers.{readAnswer, readWords, loneStep}
 use Rattle.text_reading.specs.ReadingNumbers.{LoneTable}
-
--- "the text reader puts its own count there": a step's answer, after n elements
-abbrev pub StepAnswerPromise : Step → ℕ → Answer → Type 0
-StepAnswerPromise step n r = r ≡ stepAnswerAfter n step
 
 -- what a whole text comes to, read with room for as many words as it has octets
 abbrev pub MeasurePromise : ℕ → List ℕ → Answer → Type 0

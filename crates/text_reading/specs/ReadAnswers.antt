@@ -6,22 +6,15 @@ use mathlib.Core.List.{List}
 use lib.ListN.{length}
 use lib.Dec.{leb}
 use Rattle.run.specs.Choice.{pick}
-use Rattle.run.specs.Head.{Outcome, outcome}
 use Rattle.run.specs.declared.Answer.{Answer}
-use Rattle.run.specs.Answers.{answer, bare, answerOf, writtenOf}
-use Rattle.sorts.specs.declared.Form.{Form}
+use Rattle.run.specs.Answers.{bare, answerOf, writtenOf}
 use Rattle.sorts.specs.Forms.{formOf, inForm}
-use Rattle.element_words.specs.declared.Element.{Element}
 use Rattle.element_reading.specs.declared.Step.{Step}
 use Rattle.element_reading.specs.declared.Step.the-variants.{Refused}
 use Rattle.element_words.specs.Words.{wordsOf}
-use Rattle.element_reading.specs.ElementHead.{headIn, stepAt}
-use Rattle.element_reading.specs.ElementNumbers.{stepAnswer}
+use Rattle.element_reading.specs.ElementHead.{stepAt}
+use Rattle.text_loops.specs.Fronts.{readIn}
 use Rattle.text_reading.specs.ReadingNumbers.{limit}
-
--- a text of a form, read: its elements, or the first refusal
-abbrev pub readIn : Form → List ℕ → Outcome Element
-readIn f text = outcome (headIn f) text
 
 -- x where the input is over the limit
 abbrev pub within-limit : {A : Type 0} → List ℕ → A → A → A
@@ -42,9 +35,3 @@ readWords form text words =
 unfoldable pub loneStep : ℕ → List ℕ → ℕ → Step
 loneStep form text at =
     inForm (formOf form) (Refused 11 0 0) (λ f. within-limit text (Refused 12 0 0) (stepAt f text at))
-
--- ---- a part of the code
-
--- "A lone read's refusal has element 0; the text reader puts its own count there": the answer of a step after n elements
-abbrev pub stepAnswerAfter : ℕ → Step → Answer
-stepAnswerAfter n step = answer (stepAnswer step .number) n (stepAnswer step .place) (stepAnswer step .count)

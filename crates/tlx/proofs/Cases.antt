@@ -22,7 +22,9 @@ use Rattle.element_words.specs.declared.Element.{Element}
 use Rattle.element_words.specs.Words.{wordsOf}
 use Rattle.element_reading.specs.Grammar.{Spells}
 use Rattle.element_reading.proofs.Places.{reading-number}
-use Rattle.text_reading.specs.ReadAnswers.{readIn, readAnswer}
+use Rattle.text_loops.specs.Fronts.{readIn}
+use Rattle.text_reading.specs.ReadAnswers.{readAnswer}
+use Rattle.text_loops.proofs.FewWords as few
 use Rattle.text_reading.proofs.ReadTexts as text
 use Rattle.case_table.specs.declared.Header.{Header}
 use Rattle.case_table.specs.declared.Header.the-variants.{Refused, Pages}
@@ -310,7 +312,7 @@ words-fit : {f : Form} {pages : List (List ℕ)} {es : List Element} → AllSpel
 unfolding given
 words-fit none = omega arith
 words-fit (more {page} {pages} {es} {fs} r s) =
-    omega (arith, words-fit s, text.words-fit (r .1), answers.given-length wordsOf es fs, length-append page (given same pages))
+    omega (arith, words-fit s, few.words-fit (r .1), answers.given-length wordsOf es fs, length-append page (given same pages))
 
 -- ---- from the promise of `read_case`, in its own words
 

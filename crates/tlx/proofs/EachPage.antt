@@ -25,7 +25,8 @@ use Rattle.element_words.specs.declared.Element.{Element}
 use Rattle.element_words.specs.Words.{wordsOf}
 use Rattle.element_reading.specs.Grammar.{Spells}
 use Rattle.element_reading.proofs.Places.{reading-number}
-use Rattle.text_reading.specs.ReadAnswers.{readIn, readAnswer}
+use Rattle.text_loops.specs.Fronts.{readIn}
+use Rattle.text_reading.specs.ReadAnswers.{readAnswer}
 use Rattle.text_reading.proofs.ReadTexts as text
 use Rattle.case_table.specs.declared.Header.{Header}
 use Rattle.case_table.specs.declared.Header.the-variants.{Refused, Pages}

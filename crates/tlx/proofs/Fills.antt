@@ -16,7 +16,8 @@ use Rattle.run.proofs.Puts.{put-none, put-length, put-given, put-given-all, beh
 use Rattle.sorts.specs.declared.Form.{Form}
 use Rattle.element_words.specs.declared.Element.{Element}
 use Rattle.element_words.specs.Words.{wordsOf}
-use Rattle.text_reading.specs.ReadAnswers.{readIn, readAnswer, readWords}
+use Rattle.text_loops.specs.Fronts.{readIn}
+use Rattle.text_reading.specs.ReadAnswers.{readAnswer, readWords}
 use Rattle.case_table.specs.declared.Header.the-variants.{Pages}
 use Rattle.case_table.specs.Layout.{number16}
 use Rattle.case_table.specs.Check.{headerOf, pagesOf}

@@ -19,8 +19,9 @@ use Rattle.sorts.specs.Forms.{formOf}
 use Rattle.element_words.specs.declared.Element.{Element}
 use Rattle.element_words.specs.Words.{wordsOf}
 use Rattle.element_reading.proofs.Reader.{reads}
-use Rattle.text_reading.specs.ReadAnswers.{readIn}
-use Rattle.text_reading.proofs.ReadTexts.{accepted-exactly, few-words, measure-is}
+use Rattle.text_loops.specs.Fronts.{readIn}
+use Rattle.text_loops.proofs.FewWords.{few-words}
+use Rattle.text_reading.proofs.ReadTexts.{accepted-exactly, measure-is}
 use Rattle.case_table.specs.declared.Header.the-variants.{Pages}
 use Rattle.case_table.specs.Layout.{number16, lengthsIn, total}
 use Rattle.case_table.specs.Check.{headerOf, pagesOf}

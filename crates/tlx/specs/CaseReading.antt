@@ -12,7 +12,8 @@ use Rattle.run.specs.Answers.{given, answerOf, writtenOf, roomyAnswer}
 use Rattle.sorts.specs.Forms.{formOf, inForm}
 use Rattle.element_words.specs.declared.Element.{Element}
 use Rattle.element_words.specs.Words.{wordsOf}
-use Rattle.text_reading.specs.ReadAnswers.{readIn, readAnswer}
+use Rattle.text_loops.specs.Fronts.{readIn}
+use Rattle.text_reading.specs.ReadAnswers.{readAnswer}
 use Rattle.case_table.specs.declared.Header.{Header}
 use Rattle.case_table.specs.declared.Header.the-variants.{Refused, Pages}
 use Rattle.case_table.specs.Check.{headerOf, pagesOf}

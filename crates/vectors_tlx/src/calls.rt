@@ -53,14 +53,14 @@ fn write_sizes_in(form: u32, sizes: &[u8], octets: &[u8], case: &mut [u8], room:
 // The five numbers, and a comma.
 fn put_case_answer(out: &mut [u8], answer: CaseAnswer) -> usize {
     let numbers = answer.answer;
-    let four = put_numbers(out, numbers);
+    let four = put_numbers(out, 0, numbers);
     let five = put_after_space(out, four, answer.page);
     put(out, five, b',')
 }
 
 fn put_page(out: &mut [u8], page: Page) -> usize {
     match page {
-        Page::Is(answer) => put_numbers(out, answer),
+        Page::Is(answer) => put_numbers(out, 0, answer),
         Page::NoPage => put(out, 0, b'.'),
     }
 }

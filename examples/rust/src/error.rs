@@ -37,7 +37,7 @@ pub enum Refusal {
     Size = 15,
 }
 
-/// A refusal, with the numbers that the library gives. Places are counted from 0, in a case from the start of the page.
+/// A refusal, with the numbers that the library gives. Places are counted from 0, in a case or in pieces from the start of the page.
 #[derive(Clone, Copy, Debug, PartialEq, Eq)]
 pub struct Error {
     /// What is wrong.

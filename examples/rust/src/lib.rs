@@ -1,7 +1,7 @@
 //! Teletex text and the TLX case, read, written and converted by the proved library Oakentwirl.
 //!
 //! Text has one of three [`Form`]s and means a list of 32-bit words, which `include/oakentwirl.h` takes apart. Nothing is guessed: input
-//! that is not of the form is an [`Error`], which names the octet and its place.
+//! that is not of the form is an [`Error`], which names the octet and its place. A page that comes in pieces is a [`Serial`].
 //!
 //! ```no_run
 //! use oakentwirl::Form;
@@ -12,9 +12,11 @@
 
 mod error;
 mod library;
+mod serial;
 
 pub use error::{Error, Refusal};
 use library::CaseAnswer;
+pub use serial::{Serial, Totals};
 
 /// A form of text.
 #[derive(Clone, Copy, Debug, PartialEq, Eq)]

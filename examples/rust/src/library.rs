@@ -2,11 +2,12 @@
 
 /// The four numbers of an answer.
 #[repr(C)]
+#[derive(Clone, Copy, Debug)]
 pub struct Answer {
-    number: usize,
-    element: usize,
-    place: usize,
-    count: usize,
+    pub number: usize,
+    pub element: usize,
+    pub place: usize,
+    pub count: usize,
 }
 
 /// The same, and the page that is refused.
@@ -17,6 +18,26 @@ pub struct CaseAnswer {
     pub place: usize,
     pub count: usize,
     pub page: usize,
+}
+
+/// What goes from one call to the next of a page that comes in pieces.
+#[repr(C)]
+#[derive(Clone, Copy, Debug)]
+pub struct Carry {
+    answer: Answer,
+    spare: usize,
+    holds: usize,
+    form: u32,
+    stopped: u32,
+    held: [u8; MOST_HELD],
+}
+
+/// The carry for the next call, the four numbers, and how many words were handed out.
+#[repr(C)]
+pub struct Fed {
+    pub carry: Carry,
+    pub answer: Answer,
+    pub handed: usize,
 }
 
 impl From<Answer> for CaseAnswer {
@@ -40,6 +61,9 @@ impl From<Answer> for CaseAnswer {
 /// `OAK_SHORT_ROOM`.
 pub const SHORT_ROOM: usize = 9;
 
+/// `OAK_MOST_HELD`.
+pub const MOST_HELD: usize = 39;
+
 extern "C" {
     pub fn oak_read(
         form: u32,
@@ -48,6 +72,15 @@ extern "C" {
         words: *mut u32,
         words_len: usize,
     ) -> Answer;
+    pub fn oak_fresh(form: u32) -> Fed;
+    pub fn oak_feed(
+        carry: Carry,
+        piece: *const u8,
+        piece_len: usize,
+        ended: u32,
+        words: *mut u32,
+        words_len: usize,
+    ) -> Fed;
     pub fn oak_write(
         form: u32,
         words: *const u32,

@@ -1,6 +1,8 @@
 //! The document's own examples, through the safe functions.
 
-use oakentwirl::{convert, read, read_case, write, write_case, Error, Form, Refusal};
+use oakentwirl::{
+    convert, read, read_case, write, write_case, Error, Form, Refusal, Serial, Totals,
+};
 
 /// "form 1, two pages"
 const CASE: &[u8] = b"TLX\0\x01\x01\0\x02\0\x01\0\x02A\xC2e";
@@ -66,4 +68,77 @@ fn a_refused_case_names_the_page() {
     let long = vec![b'A'; 65_536];
     let size = error(Refusal::Size, 0, 0, 0, 0);
     assert_eq!(write_case(Form::Eight, &[&long]), Err(size));
+}
+
+#[test]
+fn a_page_in_pieces_is_read_as_the_whole() {
+    let text = b"A\xCC\xC2e\x9B0;m\xA6B";
+    let whole = read(Form::Basic, text).unwrap();
+    for size in 1..=text.len() {
+        let mut page = Serial::new(Form::Basic);
+        let mut words = Vec::new();
+        for piece in text.chunks(size) {
+            words.extend_from_slice(page.feed(piece).unwrap());
+        }
+        assert_eq!(words, whole);
+        let totals = Totals {
+            elements: 5,
+            octets: text.len(),
+            words: 7,
+        };
+        assert_eq!(page.end(), Ok(totals));
+    }
+}
+
+#[test]
+fn a_fault_keeps_the_words_before_it() {
+    let mut page = Serial::new(Form::Eight);
+    assert_eq!(page.feed(b"A\xC2"), Ok(&[0x41][..]));
+    let follower = error(Refusal::NotAFollower, 2, 3, 4, 0);
+    assert_eq!(page.feed(b"e\xC2b"), Err(follower));
+    assert_eq!(page.words(), [0xE9]);
+    assert_eq!(page.feed(b"A"), Err(follower));
+    assert_eq!(page.words(), []);
+    assert_eq!(page.end(), Err(follower));
+}
+
+#[test]
+fn a_page_may_end_inside_an_element_or_pass_the_limit() {
+    let mut open = Serial::new(Form::Seven);
+    assert_eq!(open.feed(b"A\x19B"), Ok(&[0x41][..]));
+    assert_eq!(open.end(), Err(error(Refusal::CutShort, 1, 1, 3, 0)));
+    let mut long = Serial::new(Form::Eight);
+    assert_eq!(
+        long.feed(&vec![b'A'; 1_048_576]).map(<[u32]>::len),
+        Ok(1_048_576)
+    );
+    assert_eq!(long.feed(b""), Ok(&[][..]));
+    assert_eq!(long.feed(b"A"), Err(error(Refusal::TooLong, 0, 0, 0, 0)));
+    let none = Totals {
+        elements: 0,
+        octets: 0,
+        words: 0,
+    };
+    assert_eq!(Serial::new(Form::Basic).end(), Ok(none));
+}
+
+#[test]
+fn a_page_goes_on_from_before_the_piece_that_passed_the_limit() {
+    let mut page = Serial::new(Form::Eight);
+    page.feed(&vec![b'A'; 1_048_574]).unwrap();
+    assert_eq!(page.feed(b"\xC2"), Ok(&[][..]));
+    let (mut smaller, ended) = (page.clone(), page.clone());
+    let long = error(Refusal::TooLong, 0, 0, 0, 0);
+    assert_eq!(page.feed(b"eA"), Err(long));
+    assert_eq!(page.words(), []);
+    assert_eq!(page.end(), Err(long));
+    assert_eq!(smaller.feed(b"e"), Ok(&[0xE9][..]));
+    let totals = Totals {
+        elements: 1_048_575,
+        octets: 1_048_576,
+        words: 1_048_575,
+    };
+    assert_eq!(smaller.end(), Ok(totals));
+    let cut = error(Refusal::CutShort, 1_048_574, 1_048_574, 1_048_575, 0);
+    assert_eq!(ended.end(), Err(cut));
 }

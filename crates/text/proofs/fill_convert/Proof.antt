@@ -11,8 +11,8 @@ use Rattle.run.proofs.Puts.{put-length}
 use Rattle.run.proofs.SpeltLoops.{fill-spelt-start, fill-spelt-end, fill-spelt-never, fill-spelt-onward, fill-spelt-turn}
 use Rattle.element_reading.proofs.Reader.{reads}
 use Rattle.element_reading.specs.ElementHead.{headIn}
-use Rattle.text_reading.specs.LawWords.{HereStands}
-use Rattle.text_reading.proofs.Steps.{here, step-refused}
+use Rattle.text_loops.specs.LawWords.{HereStands}
+use Rattle.text_loops.proofs.Steps.{here, step-refused}
 use Rattle.element_spelling.specs.ElementOctets.{spellElement}
 use Rattle.text.specs.Outcomes.{respellHead}
 use Rattle.element_spelling.proofs.SpeltSizes.{spelt-short}

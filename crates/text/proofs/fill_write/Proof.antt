@@ -11,7 +11,7 @@ use Rattle.run.proofs.Puts.{put-length}
 use Rattle.run.proofs.SpeltLoops.{fill-spelt-start, fill-spelt-end, fill-spelt-never, fill-spelt-onward, fill-spelt-turn}
 use Rattle.element_words.specs.Words.{wordHead}
 use Rattle.element_words.proofs.Words.{words-read}
-use Rattle.text_reading.specs.LawWords.{HereStands}
+use Rattle.text_loops.specs.LawWords.{HereStands}
 use Rattle.element_spelling.specs.ElementOctets.{spellElement, spellHead}
 use Rattle.element_spelling.proofs.SpeltSizes.{spelt-short}
 use Rattle.text.proofs.Places.{word-here, no-word-here}

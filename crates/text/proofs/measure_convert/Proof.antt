@@ -10,8 +10,8 @@ use Rattle.run.specs.Answers.{same}
 use Rattle.run.proofs.SpeltLoops.{spelt-start, spelt-small, spelt-end, spelt-stop, spelt-ten, spelt-onward, spelt-turn}
 use Rattle.element_reading.proofs.Reader.{reads}
 use Rattle.element_reading.specs.ElementHead.{headIn}
-use Rattle.text_reading.specs.LawWords.{HereStands}
-use Rattle.text_reading.proofs.Steps.{here, step-refused}
+use Rattle.text_loops.specs.LawWords.{HereStands}
+use Rattle.text_loops.proofs.Steps.{here, step-refused}
 use Rattle.element_spelling.specs.ElementOctets.{spellElement}
 use Rattle.text.specs.Outcomes.{respellHead}
 use Rattle.element_spelling.proofs.SpeltSizes.{spelt-short}

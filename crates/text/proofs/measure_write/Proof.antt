@@ -10,7 +10,7 @@ use Rattle.run.specs.Answers.{same}
 use Rattle.run.proofs.SpeltLoops.{spelt-start, spelt-small, spelt-end, spelt-stop, spelt-ten, spelt-onward, spelt-turn}
 use Rattle.element_words.specs.Words.{wordHead}
 use Rattle.element_words.proofs.Words.{words-read}
-use Rattle.text_reading.specs.LawWords.{HereStands}
+use Rattle.text_loops.specs.LawWords.{HereStands}
 use Rattle.element_spelling.specs.ElementOctets.{spellElement, spellHead}
 use Rattle.element_spelling.proofs.SpeltSizes.{spelt-short}
 use Rattle.text.proofs.Places.{word-here, no-word-here}

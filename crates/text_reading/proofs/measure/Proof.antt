@@ -1,7 +1,8 @@
 -- No form is 11 (no-form), over the limit is 12 (over), else what is counted, for which the room is enough (enough).
-use mathlib.Core.Path.{_≡_, sym, _∙_}
+use mathlib.Core.Path.{_≡_, sym, ap, _∙_}
 use Rattle.sorts.specs.declared.FormFound.the-variants.{Is}
 use Rattle.sorts.specs.Forms.{formOf}
+use Rattle.text_loops.specs.declared.Measured.{Measured}
 use Rattle.text_reading.specs.ReadAnswers.{readAnswer}
 use Rattle.text_reading.proofs.ReadTexts.{enough}
 use Rattle.text_reading.proofs.Edges.{no-form, a-form, over, within}
@@ -39,15 +40,17 @@ returns-2 c =
     let a = told .before .before .before .before .args in
     c .bare-answer2 .ensures ∙ a-form _ _ _ _ _ (is-form told) (over (a .text .now) _ _ (c .before .if1 .taken))
 
-measure-in-requires : tie.Need-measure-in-requires
-measure-in-requires c κs = search needs
+measure-front-requires : tie.Need-measure-front-requires
+measure-front-requires c κs = search needs
 
 returns-3 : tie.Need-returns-3
 unfolding readAnswer
 returns-3 c =
-    let told = c .before .before .before in
+    let test = c .before .before in
+    let told = test .before .before in
     let a = told .before .before .before .before .args in
-    a-form _ _ _ _ _ (is-form told) (c .measure-in .ensures ∙ enough _ (a .text .now) ∙ within (a .text .now) _ _ (c .before .if1 .left))
+    let e = ap (λ (m : Measured). m .answer) (c .before .measure-front .ensures) ∙ enough _ (a .text .now) in
+    a-form _ _ _ _ _ (is-form told) (e ∙ within (a .text .now) _ _ (test .if1 .left))
 
 pub measure-spec : {M : Type 1} → statement M
 measure-spec =
@@ -60,5 +63,5 @@ measure-spec =
     returns
     bare-answer-requires-2
     returns-2
-    measure-in-requires
+    measure-front-requires
     returns-3)

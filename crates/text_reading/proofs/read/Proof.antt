@@ -1,8 +1,10 @@
--- No form is 11 (asked-none), over the limit is 12 (asked-over), else what reading in the form promises (asked-within).
+-- No form is 11 (asked-none), over the limit is 12 (asked-over), else what reading in the form promises (asked-within):
+-- a refusal (whole-refused), 9 (whole-short), or all (whole-roomy).
 use mathlib.Core.Path.{_≡_, sym, _∙_}
 use Rattle.sorts.specs.declared.FormFound.the-variants.{Is}
 use Rattle.sorts.specs.Forms.{formOf}
 use Rattle.text_reading.specs.ReadAnswers.{readAnswer, readWords}
+use Rattle.text_reading.proofs.Wholes.{whole-refused, whole-short, whole-roomy}
 use Rattle.text_reading.proofs.Edges.{asked-none, asked-over, asked-within}
 use borrow.Author.Needs.{needs}
 use Rattle.text_reading.proofs.read.Statement.{statement}
@@ -41,8 +43,8 @@ returns-2 c =
     let a = told .before .before .before .before .before .args in
     asked-over _ (a .text .now) _ _ _ (c .bare-answer2 .ensures) (is-form told) (c .before .if1 .taken)
 
-read-in-requires : tie.Need-read-in-requires
-read-in-requires c κs = search needs
+read-front-requires : tie.Need-read-front-requires
+read-front-requires c κs = search needs
 
 same-length : tie.Need-same-length
 same-length c = search needs
@@ -50,10 +52,42 @@ same-length c = search needs
 returns-3 : tie.Need-returns-3
 unfolding readAnswer readWords
 returns-3 c =
-    let test = c .before .before .before .before in
+    let front = c .before .before .before .before .before in
+    let test = front .before .before in
     let told = test .before .before in
     let a = told .before .before .before .before .before .args in
-    asked-within _ (a .text .now) _ _ _ (c .before .before .read-in .ensures) (is-form told) (test .if1 .left)
+    asked-within _ (a .text .now) _ _ _ (whole-refused _ _ _ (front .read-front .ensures) (c .if2 .taken)) (is-form told) (test .if1 .left)
+
+short-room-requires : tie.Need-short-room-requires
+short-room-requires c κs = search needs
+
+same-length-2 : tie.Need-same-length-2
+same-length-2 c = search needs
+
+returns-4 : tie.Need-returns-4
+unfolding readAnswer readWords
+returns-4 c =
+    let accepted = c .before .before .before in
+    let front = accepted .before .before .before .before .before in
+    let test = front .before .before in
+    let told = test .before .before in
+    let a = told .before .before .before .before .before .args in
+    let w = whole-short _ _ _ (front .read-front .ensures) (accepted .if2 .left) (c .before .if3 .taken) in
+    asked-within _ (a .text .now) _ _ _ (c .short-room .ensures ∙ w .0, w .1) (is-form told) (test .if1 .left)
+
+same-length-3 : tie.Need-same-length-3
+same-length-3 c = search needs
+
+returns-5 : tie.Need-returns-5
+unfolding readAnswer readWords
+returns-5 c =
+    let accepted = c .before .before in
+    let front = accepted .before .before .before .before .before in
+    let test = front .before .before in
+    let told = test .before .before in
+    let a = told .before .before .before .before .before .args in
+    let w = whole-roomy _ _ _ (front .read-front .ensures) (accepted .if2 .left) (c .if3 .left) in
+    asked-within _ (a .text .now) _ _ _ w (is-form told) (test .if1 .left)
 
 pub read-spec : {M : Type 1} → statement M
 read-spec =
@@ -66,6 +100,11 @@ read-spec =
     returns
     bare-answer-requires-2
     returns-2
-    read-in-requires
+    read-front-requires
     same-length
-    returns-3)
+    returns-3
+    short-room-requires
+    same-length-2
+    returns-4
+    same-length-3
+    returns-5)

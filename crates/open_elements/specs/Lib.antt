@@ -1,0 +1,3 @@
+pub mod OpenElements
+pub mod Steps
+pub mod Promises

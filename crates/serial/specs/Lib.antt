@@ -1,0 +1,4 @@
+pub mod SerialNumbers
+pub mod Feeding
+pub mod Promises
+pub mod Calls

@@ -1,0 +1,5 @@
+pub mod FewWords
+pub mod Steps
+pub mod Fronts
+mod RunsAndPairs
+pub mod OneAnswer

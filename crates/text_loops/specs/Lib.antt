@@ -1,0 +1,4 @@
+pub mod RunsAndPairs
+pub mod Fronts
+pub mod LawWords
+pub mod Promises
