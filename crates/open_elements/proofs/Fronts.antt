@@ -21,6 +21,7 @@ use Rattle.element_reading.proofs.Reader.{reads, refuses-exactly-by}
 use Rattle.text_loops.specs.declared.Measured.{Measured}
 use Rattle.text_loops.specs.Fronts.{readIn, measured, wordsBefore}
 use Rattle.text_reading.specs.ReadingNumbers.{ReadingFault}
+use Rattle.text_reading.proofs.ReadTexts.{refused-exactly}
 use Rattle.open_elements.proofs.Faults.{fault-small, run-small}
 
 module _ (f : Form) (s : List ℕ) where
@@ -57,20 +58,7 @@ module _ (f : Form) (s : List ℕ) where
 
   pub refused-read : (r n p d : ℕ) → readIn f s ≡ refusal r n p d → ReadTo r n p d
   refused-read r n p d q =
-      let h = outcomes.refuses (reads f) s r n p d .0 q in
-      let at : ReadingFault f s r n p d =
-      record {
-        front = h .front;
-        rest = h .rest;
-        elements = h .elements;
-        behind = h .behind;
-        whole = h .whole;
-        run = h .run;
-        here = refuses-exactly-by f (h .rest) r (h .behind) .0 (h .here);
-        element-number = h .element-number;
-        first-place = h .first-place;
-        deciding = h .deciding;
-      } in
+      let at = refused-exactly f s r n p d .0 q in
       record { fault = at; words = fault-words at }
 
   pub refused-measured : {r n p d : ℕ} (q : readIn f s ≡ refusal r n p d) (z : ReadTo r n p d)
