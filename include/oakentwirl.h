@@ -71,7 +71,8 @@ enum {
     OAK_BEGINS_NOTHING = 1,
     /* 0E, 0F, 1B, 1D, or 19 in forms 1 and 3: other alphabets are not read. place, count: that octet. Next: name it. */
     OAK_ESCAPE = 2,
-    /* What follows a mark is not its listed follower, or what follows CC may not. place: first; count: deciding. Next: name the octet. */
+    /* What follows a mark is not its listed follower, or what follows CC may not. place: first; count: deciding. Next: name the octet.
+       Small g with cedilla, U+0123, is C2 67 (form 2: 19 42 67), as Annex A of T.51 codes it; CB 67 (19 4B 67) is this refusal. */
     OAK_NOT_A_FOLLOWER = 3,
     /* The input ends inside an element. place: first; count: input length. Next: fetch the rest, or keep what stands before `place`.
        oak_feed: only where it is told that the page ends; it is final, and no rest can follow; the words before it are handed out. */

@@ -1,6 +1,6 @@
 """The examples: programs that convert a file from one form to another, one that reads a page as it comes, and those of README.md.
 
-`check` runs one program on each text beside the model of document 01, and compares its exit status, its output file and its message:
+`check` runs one program on each text beside the model of the documents, and compares its exit status, its output file and its message:
 that of a refusal names the number, the octet in hex, its place and its element. `check_serial` does so with pages on standard input, and
 compares the words that are printed. `check_readme` runs the lines of a section of README.md as they are written there, and compares what
 they write with the comments at their end. `check_own` runs a program of tests that Rust made. Standard library only.

@@ -360,6 +360,7 @@ def main(folder: pathlib.Path, emulator: Sequence[str]) -> int:
         results += [compare(driver, pathlib.Path(large))]
     results += [examples.check("C", [*emulator, str(folder / "convert-c")], folder), examples.check_readme("Use it from C")]
     results += [examples.check_serial([*emulator, str(folder / "serial-c")], folder), examples.check_readme("Read a page as it comes")]
+    results += [examples.check_readme("Read a Latvian card")]
     if (folder / "convert-rust").exists():
         results += [examples.check("Rust", [*emulator, str(folder / "convert-rust")], folder)]
         results += [examples.check_own([*emulator, str(folder / "document-rust")]), examples.check_readme("Use it from Rust")]

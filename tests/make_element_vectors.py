@@ -4,7 +4,7 @@
     make_element_vectors.py            writes the files
     make_element_vectors.py --check    only compares them, with exit status 1 where one is not as it would be written
 
-All of it comes from the model of document 01 (model.py), never from our own code. A file has a heading and a line a vector: octets
+All of it comes from the model of the documents (model.py), never from our own code. A file has a heading and a line a vector: octets
 or words, a place, and the answer there. An answer is `00E9 > 02`, an element's words and the place after it; `!03 00 01`, a
 refusal's number in decimal, place and count; or `.`, none is left. Where words are asked, the element's spelling in each form
 follows, `-` where the form does not hold it. Everything else is in hex.

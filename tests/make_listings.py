@@ -4,7 +4,7 @@
     make_listings.py            writes the files
     make_listings.py --check    only compares them, with exit status 1 where one is not as it would be written
 
-All of it comes from the model of document 01 (model.py), never from our own code. crates/tlx_list/stdin is the document's whole example,
+All of it comes from the model of the documents (model.py), never from our own code. crates/tlx_list/stdin is the document's whole example,
 and so is examples/two-pages.tlx; crates/listings/data has a case of every other kind, and its stdout the name of each with its listing.
 """
 from __future__ import annotations

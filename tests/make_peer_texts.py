@@ -4,12 +4,12 @@
     make_peer_texts.py            asks the C library, and writes the files
     make_peer_texts.py --check    asks it and only compares, with exit status 1 where a file is not as it would be written
 
-The texts are of codes that document 01 allocates, drawn by chance from a fixed seed. A file has a heading and a line a text: the
+The texts are of codes that documents 01 and 02 allocate, drawn by chance from a fixed seed. A file has a heading and a line a text: the
 octets, the code points that the C library gave, and how many octets it took, which are fewer than there are where it refuses the
 code that comes next. All of it is in hex. Where the C library is another, or lacks the alphabets, it cannot be asked: then nothing is
 written, and --check says so and compares the texts alone.
 
-What it gives is held here against document 01 (model.py): they may differ only in the codes of which docs/PEERS.md has it (peers.py).
+What it gives is held here against the documents (model.py): they may differ only in the codes of which docs/PEERS.md has it (peers.py).
 """
 from __future__ import annotations
 
@@ -63,7 +63,7 @@ Text = Tuple[Code, ...]
 
 
 def allocated(form: int) -> list[Code]:
-    """The codes that document 01 allocates in the form.
+    """The codes that documents 01 and 02 allocate in the form.
 
     The underlined and the control sequences of form 3 are left out: the C library reads neither as document 01 has them.
     """
@@ -73,7 +73,7 @@ def allocated(form: int) -> list[Code]:
 
 @functools.cache
 def listed(decoder: Decoder) -> dict[Code, peers.Difference]:
-    """The allocated codes in which the C library and document 01 differ."""
+    """The allocated codes in which the C library and the documents differ."""
     peer = peer_of(decoder)
     codes = allocated(peer.form)
     return {difference.code: difference for difference in peers.differences_of(peer) if difference.code in codes}
@@ -183,15 +183,15 @@ def file_text(decoder: Decoder, answers: dict[bytes, Given]) -> str:
     return found
 
 
-# What document 01 says of it.
+# What the documents say of it.
 
 SAME, LISTED, STOPPED = "same", "listed", "stopped"
 
 
 def verdict(decoder: Decoder, text: Text, given: Given) -> str:
-    """Whether the C library and document 01 agree on the text, but for listed characters, or up to a code that it is listed to refuse.
+    """Whether the C library and the documents agree on the text, but for listed characters, or up to a code that it is listed to refuse.
 
-    Document 01 reads all of it. Every code gives one character to both.
+    The documents read all of it. Every code gives one character to both.
     """
     form, differences = peer_of(decoder).form, listed(decoder)
     answer, words = model.read_text(form, octets_of(text))
@@ -218,7 +218,7 @@ class Totals(NamedTuple):
 
 
 def totals(decoder: Decoder) -> Totals:
-    """How the texts of the file compare with document 01."""
+    """How the texts of the file compare with the documents."""
     answers = stored(decoder)
     verdicts = [verdict(decoder, text, answers[octets_of(text)]) for text in texts(decoder)]
     return Totals(len(verdicts), *(verdicts.count(each) for each in (SAME, LISTED, STOPPED)))

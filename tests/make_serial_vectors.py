@@ -4,7 +4,7 @@
     make_serial_vectors.py            writes the files
     make_serial_vectors.py --check    only compares them, with exit status 1 where one is not as it would be written
 
-All of it comes from the model of documents 01 and 02 (model.py), never from our own code. A file has a heading and a line a vector:
+All of it comes from the model of the documents (model.py), never from our own code. A file has a heading and a line a vector:
 where a page starts, the calls, and the outcome of each. A page starts with the form that it is made fresh with, and then making fresh
 is the first outcome; or, in carry.csv, with the fields of a carry, `held` first. A call is its piece, the room that is lent, and 1 if the
 page ends; `;` stands between calls. An outcome is the four numbers of the answer and how many words were handed out; these words; and

@@ -4,7 +4,7 @@
     make_tables.py            writes the files
     make_tables.py --check    only compares them, with exit status 1 where one is not as it would be written
 
-The numbers come from the model of document 01 (model.py). The proof stays the judge: the check compares each entry with what the
+The numbers come from the model of the documents (model.py). The proof stays the judge: the check compares each entry with what the
 definitions of specs/ compute, so that a cell that is altered is altered here and there. The layout is that of `rt fmt`.
 """
 from __future__ import annotations

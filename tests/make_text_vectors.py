@@ -4,7 +4,7 @@
     make_text_vectors.py            writes the files
     make_text_vectors.py --check    only compares them, with exit status 1 where one is not as it would be written
 
-All of it comes from the model of document 01 (model.py), never from our own code. A file has a heading and a line a vector: the
+All of it comes from the model of the documents (model.py), never from our own code. A file has a heading and a line a vector: the
 form, the octets or words, the room that is lent, the four numbers of the answer (`03 02 05 06`, the first in decimal), and the
 entries that it puts. A conversion has two forms, with a space between. Where one element is read, a place stands for the room, and
 the answer is `00E9 > 02`, its words and the place after it; `!03 00 01`, a refusal's number in decimal, place and count; or `.`,
@@ -124,10 +124,10 @@ def some_size(chance: random.Random) -> int:
 
 # Octets that are refused wherever they stand in a text, or at its end.
 REFUSED = {
-    1: "A4 E5 80 9B CC 00 7F 8B 0E 0F 1B 1D 19 C262 C2C2 C10A C21B C2A4 CB67 C769 C841A4",
-    2: "00 7F 08 0E 1B 1D 1924 1940 190A 1919 191B 194262 194219 1942C2 19C2 C2 A1 80 FF 19 9B 194B67",
-    3: "60 5C 5E 7B 7D 7E A0 A9 D0 FF E5 80 00 0E 1B 1D 19 C262 C2CC CC0A CC9B346D CCCC41 CC60 CCC262 CC1B CCA9 9B1B 9B3A 9B2020"
-    " 9B2031 9B31303030 9B3B3B3B3B3B3B3B3B 9B303939393B313030306D 9BC265",
+    1: "A4 E5 80 9B CC 00 7F 8B 0E 0F 1B 1D 19 C262 C2C2 C10A C21B C2A4 C247 CB67 C769 C841A4",
+    2: "00 7F 08 0E 1B 1D 1924 1940 190A 1919 191B 194262 194219 1942C2 19C2 C2 A1 80 FF 19 9B 194247 194B67",
+    3: "60 5C 5E 7B 7D 7E A0 A9 D0 FF E5 80 00 0E 1B 1D 19 C262 C2CC CC0A CC9B346D CCCC41 CC60 CCC262 CC1B CCA9"
+    " C247 CB67 CCC247 CCCB67 9B1B 9B3A 9B2020 9B2031 9B31303030 9B3B3B3B3B3B3B3B3B 9B303939393B313030306D 9BC265",
 }
 LONG_SEQUENCES = ("9B" + "30" * 38 + "6D", "9B" + "30" * 38 + "30", "9B" + "30" * 37 + "206D", "9B" + "30" * 38 + "20")
 
@@ -243,7 +243,7 @@ LACKED: list[Words] = [
     (0x03A9,),
     (0x00D0,),
     (0x0100,),
-    (0x0123,),
+    (0x01F5,),
     (0x20AC,),
     (0x0300,),
     (0x2018,),

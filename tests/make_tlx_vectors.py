@@ -4,7 +4,7 @@
     make_tlx_vectors.py            writes the files
     make_tlx_vectors.py --check    only compares them, with exit status 1 where one is not as it would be written
 
-All of it comes from the model of document 01 (model.py), never from our own code. A file has a heading and a line a vector.
+All of it comes from the model of the documents (model.py), never from our own code. A file has a heading and a line a vector.
 
 - Reading: the case, the room that is lent, the four numbers of the answer and the page beside them (`03 02 05 06 01`, the first in
   decimal), and the words that it puts.

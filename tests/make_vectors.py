@@ -4,8 +4,8 @@
     make_vectors.py            writes both files
     make_vectors.py --check    only compares them, with exit status 1 where one is not as it would be written
 
-Both come from the model of document 01 (model.py) and from other decoders' answers (crates/vectors_alphabet/data/*.csv), never from
-our own code. Each difference between a decoder and document 01 has its reason in peers.py. Of whole texts the page has what
+Both come from the model of the documents (model.py) and from other decoders' answers (crates/vectors_alphabet/data/*.csv), never
+from our own code. Each difference between a decoder and the documents has its reason in peers.py. Of whole texts the page has what
 make_peer_texts.py says of its files.
 """
 from __future__ import annotations
@@ -176,7 +176,7 @@ def short(difference: Difference) -> str:
 TEXTS = f"""\
 ## Whole texts that the GNU C library decoded
 
-Texts of the codes that document 01 allocates, up to {make_peer_texts.MOST_ELEMENTS} elements long and with each code in some of them, were decoded by `iconv`
+Texts of the codes that documents 01 and 02 allocate, up to {make_peer_texts.MOST_ELEMENTS} elements long and with each code in some of them, were decoded by `iconv`
 of the GNU C library {make_peer_texts.VERSION}. They are stored with the code points that it gave and with how many octets it took
 (`tests/make_peer_texts.py`; `--check` asks it again). CC and 9B are left out: it reads neither as document 01 has them. The program
 `crates/vectors_text` reads the same octets by `text::read` and compares word by word, a control as its own number. A text that
@@ -201,15 +201,19 @@ def texts_section() -> Iterator[str]:
 INTRODUCTION = """\
 # Our answers beside other decoders'
 
-The alphabets of document 01 are held against six files of answers, one a decoder. Each answer was obtained by running the decoder on
-one input alone: an octet, or one of C0 to CF and then SPACE or a letter. Where a decoder and document 01 differ, document 01 decides,
-and the difference stands here with its reason.
+The alphabets of document 01, with the one pair that document 02 adds, are held against six files of answers, one a decoder. Each answer
+was obtained by running the decoder on one input alone: an octet, or one of C0 to CF and then SPACE or a letter. Where a decoder and the
+documents differ, the documents decide, and the difference stands here with its reason.
+
+That pair is C2 and g, small g with cedilla, U+0123: Annex A of T.51 (source document 001) codes it so and names it so, and its name
+decides the character (document 02, No. 2). No decoder here agrees: two read g with acute, U+01F5, the others refuse it, and all of them
+have U+0123 at CB and g, where the documents have nothing.
 
 The program `crates/vectors_alphabet` makes the comparison in the gate, with the proved code on our side. What it must print, and this
-page, are made by `tests/make_vectors.py` from `tests/model.py`, which is written from document 01 alone. In `tests/peers.py` each
+page, are made by `tests/make_vectors.py` from `tests/model.py`, which is written from the documents alone. In `tests/peers.py` each
 difference has to have its reason, and each reason its difference. Whole texts of two of the decoders are compared too.
 
-Octets and code points are in hex. Ours is the character, a control's own number, or `refused`: where document 01 refuses the octets,
+Octets and code points are in hex. Ours is the character, a control's own number, or `refused`: where the documents refuse the octets,
 and where they end inside an element, as a mark, CC or 9B alone does. Letters after a mark stand as in document 01, and where a
 decoder gives a character of its own for each, these stand in the letters' order. For C0 and C9 before a letter Wireshark puts U+FFFD
 and goes on; its file has that as refused. Its file has no line for 00. The file of libzvbi has no octets below A0.

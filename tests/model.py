@@ -1,9 +1,10 @@
 """The alphabets, the elements, the texts and the TLX case of document 01, and the requests of document 02, from their text alone.
 
-A form is 1, 2 or 3, an octet is 0 to 255, a character is its Unicode code point. The lists below are the document's own
-sentences, kept as text and taken apart here, so that they can be held against the page. The 154 pairs stand nowhere in
-document 01: they are derived from Unicode's canonical decompositions, as it says. Where a document leaves a matter open,
-docs/DECISIONS.md has how it was decided. Run by itself it says whether the document's sixteen readings hold. Standard library only.
+A form is 1, 2 or 3, an octet is 0 to 255, a character is its Unicode code point. The lists below are the documents' own
+sentences, kept as text and taken apart here, so that they can be held against the page. Document 01 has no list of the characters of its
+154 pairs: they are derived from Unicode's canonical decompositions, as it says. The 155th pair, document 02's, is the one exception. Where
+a document leaves a matter open, docs/DECISIONS.md has how it was decided. Run by itself it says whether the document's sixteen readings
+hold. Standard library only.
 """
 from __future__ import annotations
 
@@ -46,6 +47,12 @@ C8 diaeresis (0308) AEIOUY aeiouy; CA ring (030A) AU au; CB cedilla (0327) CGKLN
 CE ogonek (0328) AEIU aeiu; CF caron (030C) CDELNRSTZ cdelnrstz
 """
 
+# Document 02, No. 2: "Annex A of source document 001 lists it and 01 left it out. Take its code from the annex's row." That row:
+LEFT_OUT_ROW = "LG11 | Latin small letter g with cedilla | S 4/2 | P 6/7"
+
+# "If the annex names it cedilla, the character is U+0123; if it names it acute, U+01F5, whichever mark octet codes it."
+LEFT_OUT_CHARACTERS = {"cedilla": 0x0123, "acute": 0x01F5}
+
 # "A mark and SPACE is the free-standing accent, in the order above"
 FREE_STANDING_LIST = "0060, 00B4, 005E, 007E, 00AF, 02D8, 02D9, 00A8, 02DA, 00B8, 02DD, 02DB, 02C7"
 
@@ -84,11 +91,25 @@ def marks_of(text: str) -> dict[int, Mark]:
     return marks
 
 
+def coded(code: str) -> int:
+    """The octet of a code such as `S 4/2` in form 1: "x/y is octet 16x+y", in the supplementary set S with the top bit on."""
+    alphabet, _, place = code.partition(" ")
+    column, row = place.split("/")
+    return 16 * int(column) + int(row) + (TOP_BIT if alphabet == "S" else 0)
+
+
+def left_out_of(row: str) -> tuple[tuple[int, int], int]:
+    """The square of a row of the annex, by the codes of its mark and its letter, and its character, by its name."""
+    _, name, mark, letter = row.split(" | ")
+    return (coded(mark), coded(letter)), LEFT_OUT_CHARACTERS[name.partition(" with ")[2]]
+
+
 SUPPLEMENTARY = {int(entry.split()[0], 16): int(entry.split()[1], 16) for entry in SUPPLEMENTARY_LIST.split(",")}
 UNALLOCATED = listed(UNALLOCATED_LIST)
 MISSING_FROM_FORM_3 = listed(MISSING_FROM_FORM_3_LIST)
 FORM_3_SUPPLEMENTARY = listed(FORM_3_SUPPLEMENTARY_LIST)
 MARKS = marks_of(MARK_LIST)
+LEFT_OUT_SQUARE, LEFT_OUT_CHARACTER = left_out_of(LEFT_OUT_ROW)
 FREE_STANDING = listed(FREE_STANDING_LIST)
 CONTROLS = {form: listed(text) for form, text in CONTROL_LISTS.items()}
 ESCAPES = {form: listed(text) for form, text in ESCAPE_LISTS.items()}
@@ -140,7 +161,8 @@ def by_decomposition() -> dict[str, list[int]]:
 def filled_squares() -> dict[tuple[int, int], int]:
     """The filled squares, by mark and follower.
 
-    "each means the one Unicode character whose canonical decomposition, taken one step, is that letter and combining character"
+    "each means the one Unicode character whose canonical decomposition, taken one step, is that letter and combining character". The one
+    exception is document 02's square: "the annex's name outweighs 01's rule on decomposition".
     """
     composed = by_decomposition()
     squares = {}
@@ -152,12 +174,20 @@ def filled_squares() -> dict[tuple[int, int], int]:
             assert len(characters) == 1, (octet, letter, characters)
             assert unicodedata.decomposition(chr(characters[0])) == decomposition
             squares[octet, ord(letter)] = characters[0]
+    assert LEFT_OUT_SQUARE not in squares
+    squares[LEFT_OUT_SQUARE] = LEFT_OUT_CHARACTER
     return squares
 
 
 PRIMARY = {form: primary(form) for form in FORMS}
 SPACING = {form: supplementary(form) for form in FORMS}
 SQUARES = filled_squares()
+PAIRS = [square for square in SQUARES if square[1] != SPACE]
+
+
+def decomposes(square: tuple[int, int], mark: int) -> bool:
+    """Whether the square's character decomposes, in one step, into its letter and the combining character of the mark."""
+    return unicodedata.decomposition(chr(SQUARES[square])) == f"{square[1]:04X} {MARKS[mark].combining:04X}"
 
 
 class Sort(NamedTuple):
@@ -266,20 +296,26 @@ def repertoire(form: int) -> list[int]:
 
 
 def check() -> None:
-    """Document 01's own counts and rules, held against the lists above."""
+    """The documents' own counts and rules, held against the lists above."""
     assert len(PRIMARY[1]) == len(PRIMARY[2]) == 95
     assert len(SUPPLEMENTARY) == 73
     assert len(SPACING[3]) == 53
     # A0 to FF is just the supplementary characters, the marks and the unallocated octets.
     assert sorted([*SUPPLEMENTARY, *MARKS, *UNALLOCATED]) == list(range(0xA0, 0x100))
-    # "The squares of 13 marks by 53 followers .. make a table of 689 entries, 167 of them filled."
+    # "The squares of 13 marks by 53 followers .. make a table of 689 entries". 01 has 154 pairs and 167 filled squares; with document 02,
+    # No. 2, "There are then 155 pairs and 168 filled squares."
     assert len(MARKS) == len(FREE_STANDING) == 13 and len(FOLLOWERS) == 53
     assert len(MARKS) * len(FOLLOWERS) == 689
-    assert len(SQUARES) == 167
     assert sum(len(mark.letters) for mark in MARKS.values()) == 154
+    assert len(SQUARES) == 168 and len(PAIRS) == 155
     assert all(follower in FOLLOWERS for _, follower in SQUARES)
+    # 01's rule on decomposition, and the one exception: C2 67 is U+0123, which decomposes into g and the mark that it is named by.
+    assert [square for square in PAIRS if not decomposes(square, square[0])] == [LEFT_OUT_SQUARE]
+    assert LEFT_OUT_SQUARE == (0xC2, ord("g")) and decomposes(LEFT_OUT_SQUARE, 0xCB) and MARKS[0xCB].name == "cedilla"
+    assert [spell(form, 0x0123) for form in FORMS] == [[0xC2, 0x67], [0x19, 0x42, 0x67], [0xC2, 0x67]]
+    assert pair(0xCB, ord("g")) is None and not any(spell(form, 0x01F5) for form in FORMS)
     # "Its rule: no character fills two squares, and none is also a supplementary character."
-    assert len(SQUARE_OF) == 167
+    assert len(SQUARE_OF) == 168
     assert not any(set(SQUARE_OF) & set(SPACING[form].values()) for form in FORMS)
     # "(A with ring is 00C5)"
     assert pair(0xCA, ord("A")) == 0x00C5

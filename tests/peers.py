@@ -1,6 +1,6 @@
-"""Other decoders' answers, code by code, beside document 01's, and the reason of each difference.
+"""Other decoders' answers, code by code, beside those of documents 01 and 02, and the reason of each difference.
 
-The answers are crates/vectors_alphabet/data/*.csv. Each difference between a decoder and document 01 has a reason in `RULES` below: a
+The answers are crates/vectors_alphabet/data/*.csv. Each difference between a decoder and the documents has a reason in `RULES` below: a
 difference that no rule names, one that two rules name, and a code that a rule names though it does not differ are errors.
 """
 from __future__ import annotations
@@ -64,10 +64,15 @@ def with_letters(first: str, letters: str) -> list[Code]:
     return pairs(first, [ord(letter) for letter in letters])
 
 
+# Where the annex codes small g with cedilla (document 02, No. 2), and where its mark would code it.
+SMALL_G = with_letters("C2", "g")
+SMALL_G_BY_MARK = with_letters("CB", "g")
+
+
 def unlisted() -> list[Code]:
-    """Each mark before each letter that document 01 does not list for it."""
+    """Each mark before each letter that is not listed for it, but for the cedilla and g, which has a reason of its own."""
     squares = [(mark, follower) for mark in model.MARKS for follower in model.FOLLOWERS]
-    return [square for square in squares if model.pair(*square) is None]
+    return [square for square in squares if model.pair(*square) is None and square not in SMALL_G_BY_MARK]
 
 
 # The differences that are expected, each with its reason.
@@ -89,7 +94,9 @@ COMBINING_UNDERLINE = "gives the combining low line after the character; 01 has 
 ETH = "reads Eth; 01 has D with stroke, and Eth is in no form"
 DASH = "reads the em dash; 01 has the horizontal bar"
 NO_ACCENT = "has no such pair; 01 has the free-standing accent"
-SMALL_G = "takes small g with cedilla; 01 lists the capital alone"
+NO_SMALL_G = "has no such pair; 02 has small g with cedilla here, by its code in the annex"
+ACUTE_G = "reads g with acute, by its code; 02 reads small g with cedilla, by its name in the annex"
+CEDILLA_G = "has small g with cedilla here; 01 lists the capital alone, and 02 has the small one at C2 and g"
 ANY_LETTER = "takes any letter after a mark; 01 does not list it"
 NO_BREAK_SPACE = "passes A0 through; form 3 has nothing there"
 MARK_ALONE = "gives a mark alone a character; to 01 the input ends inside the pair"
@@ -108,13 +115,15 @@ RULES = [
     Rule("glibc_T61.csv", singles("23 24"), NUMBER_CURRENCY),
     Rule("glibc_T61.csv", singles("E2"), ETH),
     Rule("glibc_T61.csv", pairs("C1 C3 C4", [model.SPACE]), NO_ACCENT),
-    Rule("glibc_T61.csv", with_letters("CB", "g"), SMALL_G),
+    Rule("glibc_T61.csv", SMALL_G, NO_SMALL_G),
+    Rule("glibc_T61.csv", SMALL_G_BY_MARK, CEDILLA_G),
     Rule("glibc_T61.csv", pairs("CC", model.FOLLOWERS), NO_UNDERLINE),
     Rule("glibc_ISO6937.csv", singles("00-09 0B 0C 0E-1F 7F-9F"), PASSED),
     Rule("glibc_ISO6937.csv", singles("D0"), DASH),
     Rule("glibc_ISO6937.csv", singles("E2"), ETH),
     Rule("glibc_ISO6937.csv", pairs("C1 C3 C4", [model.SPACE]), NO_ACCENT),
-    Rule("glibc_ISO6937.csv", with_letters("CB", "g"), SMALL_G),
+    Rule("glibc_ISO6937.csv", SMALL_G, NO_SMALL_G),
+    Rule("glibc_ISO6937.csv", SMALL_G_BY_MARK, CEDILLA_G),
     Rule("glibc_ISO6937-2.csv", singles("00-09 0B 0C 0E-1F 7F-9F"), PASSED),
     Rule("glibc_ISO6937-2.csv", singles("24"), OLDER_DOLLAR),
     Rule("glibc_ISO6937-2.csv", singles("A4 A6"), OLDER_ALLOCATED),
@@ -122,7 +131,8 @@ RULES = [
     Rule("glibc_ISO6937-2.csv", singles("D0"), DASH),
     Rule("glibc_ISO6937-2.csv", singles("E2"), ETH),
     Rule("glibc_ISO6937-2.csv", pairs("C1 C3", [model.SPACE]), NO_ACCENT),
-    Rule("glibc_ISO6937-2.csv", with_letters("CB", "g"), SMALL_G),
+    Rule("glibc_ISO6937-2.csv", SMALL_G, NO_SMALL_G),
+    Rule("glibc_ISO6937-2.csv", SMALL_G_BY_MARK, CEDILLA_G),
     Rule("wireshark_T61.csv", singles("01-07 09 0B 0E-19 1B-1F 7F-8A 8D-9A 9C-9F"), PASSED),
     Rule("wireshark_T61.csv", singles("9B"), SEQUENCE),
     Rule("wireshark_T61.csv", singles("A0"), NO_BREAK_SPACE),
@@ -131,6 +141,8 @@ RULES = [
     Rule("wireshark_T61.csv", singles("CC"), UNDERLINE_ALONE),
     Rule("wireshark_T61.csv", singles("E2"), ETH),
     Rule("wireshark_T61.csv", pairs("CC", model.FOLLOWERS), COMBINING_UNDERLINE),
+    Rule("wireshark_T61.csv", SMALL_G, ACUTE_G),
+    Rule("wireshark_T61.csv", SMALL_G_BY_MARK, CEDILLA_G),
     Rule("wireshark_T61.csv", unlisted(), ANY_LETTER),
     Rule("openldap_T61.csv", singles("01-07 09 0B 0E-19 1B-1F 7F-8A 8D-9A 9C-9F"), PASSED),
     Rule("openldap_T61.csv", singles("9B"), SEQUENCE),
@@ -140,6 +152,8 @@ RULES = [
     Rule("openldap_T61.csv", singles("CC"), UNDERLINE_ALONE),
     Rule("openldap_T61.csv", singles("E2"), ETH),
     Rule("openldap_T61.csv", pairs("CC", model.FOLLOWERS), COMBINING_UNDERLINE),
+    Rule("openldap_T61.csv", SMALL_G, ACUTE_G),
+    Rule("openldap_T61.csv", SMALL_G_BY_MARK, CEDILLA_G),
     Rule("openldap_T61.csv", unlisted(), ANY_LETTER),
     Rule("zvbi_teletext_G2.csv", singles("A4 A6 C0 C9 CC D8-DB E5"), G2_ALLOCATED),
     Rule("zvbi_teletext_G2.csv", singles("C1-C8 CA CB CD-CF"), MARK_ALONE),
@@ -149,7 +163,8 @@ RULES = [
     Rule("zvbi_teletext_G2.csv", pairs("C0", model.FOLLOWERS), G2_NO_MARK),
     Rule("zvbi_teletext_G2.csv", pairs("C1-C8 CA CB CD-CF", [model.SPACE]), NO_ACCENT),
     Rule("zvbi_teletext_G2.csv", with_letters("C6", "EIOeio"), G2_BREVE),
-    Rule("zvbi_teletext_G2.csv", with_letters("CB", "g"), SMALL_G),
+    Rule("zvbi_teletext_G2.csv", SMALL_G, NO_SMALL_G),
+    Rule("zvbi_teletext_G2.csv", SMALL_G_BY_MARK, CEDILLA_G),
 ]
 
 
@@ -166,7 +181,7 @@ def code_point(character: int) -> str:
     return f"{character:04X}" if character < 0x10000 else f"{character:08X}"
 
 
-# What the other decoders answer, and what document 01 does.
+# What the other decoders answer, and what the documents do.
 
 
 def answers_of(peer: Peer) -> list[tuple[Code, str]]:

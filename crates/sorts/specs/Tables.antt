@@ -1,4 +1,5 @@
--- To be believed: the alphabets of document 01, in its order and its words. An octet or a follower stands before its character.
+-- To be believed: the alphabets of document 01, in its order and its words, and in the row of the acute the one letter that document 02
+-- adds (its No. 2). An octet or a follower stands before its character.
 -- Assumes nothing.
 use Prim.Native.Nat.{ℕ, zero, suc}
 use Prim.Native.Char.{Char, code}
@@ -55,7 +56,7 @@ supplementary-3 =
     ++ part 0xE6 0xFE supplementary)
 
 -- ---- marks: "written before the letter, with the combining character in brackets". Each letter stands with "the one Unicode character
--- whose canonical decomposition, taken one step, is that letter and combining character".
+-- whose canonical decomposition, taken one step, is that letter and combining character"; but for one, the small g of the acute.
 
 -- a mark's octet, its combining character, and its followers with their characters
 pub data Row : Type 0 where
@@ -74,12 +75,16 @@ grave =
     "a" gives 0x00E0 ∷ "e" gives 0x00E8 ∷ "i" gives 0x00EC ∷ "o" gives 0x00F2 ∷ "u" gives 0x00F9 ∷ [])
 
 -- C2 acute (0301) ACEILNORSUYZ aceilnorsuyz: Á Ć É Í Ĺ Ń Ó Ŕ Ś Ú Ý Ź, á ć é í ĺ ń ó ŕ ś ú ý ź
+-- And g: ģ, by document 02, No. 2: "Annex A of source document 001 lists it and 01 left it out. Take its code from the annex's row. If the
+-- annex names it cedilla, the character is U+0123; if it names it acute, U+01F5, whichever mark octet codes it." The row: LG11, "Latin
+-- small letter g with cedilla", S 4/2, P 6/7. So the code is this mark and the letter g, and the character U+0123, which decomposes into g
+-- and the cedilla's 0327: "For this square the annex's name outweighs 01's rule on decomposition."
 unfoldable pub acute : Row
 acute =
     row 0xC2 0x0301
     ("A" gives 0x00C1 ∷ "C" gives 0x0106 ∷ "E" gives 0x00C9 ∷ "I" gives 0x00CD ∷ "L" gives 0x0139 ∷ "N" gives 0x0143 ∷
     "O" gives 0x00D3 ∷ "R" gives 0x0154 ∷ "S" gives 0x015A ∷ "U" gives 0x00DA ∷ "Y" gives 0x00DD ∷ "Z" gives 0x0179 ∷
-    "a" gives 0x00E1 ∷ "c" gives 0x0107 ∷ "e" gives 0x00E9 ∷ "i" gives 0x00ED ∷ "l" gives 0x013A ∷ "n" gives 0x0144 ∷
+    "a" gives 0x00E1 ∷ "c" gives 0x0107 ∷ "e" gives 0x00E9 ∷ "g" gives 0x0123 ∷ "i" gives 0x00ED ∷ "l" gives 0x013A ∷ "n" gives 0x0144 ∷
     "o" gives 0x00F3 ∷ "r" gives 0x0155 ∷ "s" gives 0x015B ∷ "u" gives 0x00FA ∷ "y" gives 0x00FD ∷ "z" gives 0x017A ∷ [])
 
 -- C3 circumflex (0302) ACEGHIJOSUWY aceghijosuwy: Â Ĉ Ê Ĝ Ĥ Î Ĵ Ô Ŝ Û Ŵ Ŷ, â ĉ ê ĝ ĥ î ĵ ô ŝ û ŵ ŷ
@@ -165,7 +170,7 @@ caron =
     "c" gives 0x010D ∷ "d" gives 0x010F ∷ "e" gives 0x011B ∷ "l" gives 0x013E ∷ "n" gives 0x0148 ∷ "r" gives 0x0159 ∷
     "s" gives 0x0161 ∷ "t" gives 0x0165 ∷ "z" gives 0x017E ∷ [])
 
--- the marks with their letters: 154 pairs
+-- the marks with their letters. Document 02, No. 2: "There are then 155 pairs and 168 filled squares."
 unfoldable pub letters : List Row
 unfolding grave acute circumflex tilde macron breve dot-above diaeresis ring cedilla double-acute ogonek caron
 letters =
@@ -181,7 +186,7 @@ withAccents [] ns = []
 withAccents (r ∷ rs) [] = r ∷ rs
 withAccents (row m k cs ∷ rs) (n ∷ ns) = row m k (cs ++ (0x20 is n ∷ [])) ∷ withAccents rs ns
 
--- the filled squares, 167, row by row
+-- the filled squares, row by row
 unfoldable pub rows : List Row
 unfolding letters accents
 rows = withAccents letters accents

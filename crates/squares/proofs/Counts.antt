@@ -1,5 +1,5 @@
--- The counts that document 01 gives, of the definitions: 95 primary characters and 73 supplementary, in form 3 89 and 53, 13 marks, 154
--- pairs of a mark and a letter, 167 filled squares, 689 entries. Each mark has a combining character of its own.
+-- The counts of the definitions. Document 01's: 95 primary characters and 73 supplementary, in form 3 89 and 53, 13 marks, 689 entries;
+-- document 02's (No. 2): 155 pairs of a mark and a letter, 168 filled squares. Each mark has a combining character of its own.
 -- Assumes nothing.
 use Prim.Native.Nat.{_*_}
 use mathlib.Core.Path.{_≡_, refl}
@@ -15,8 +15,8 @@ pub counts :
     × (length supplementary ≡ 73)
     × (length primary-3 ≡ 89)
     × (length supplementary-3 ≡ 53)
-    × (cellCount letters ≡ 154)
-    × (length squares ≡ 167)
+    × (cellCount letters ≡ 155)
+    × (length squares ≡ 168)
     × (length marks * length followers ≡ 689)
     × (length letters ≡ 13)
     × (noTwice (map combiningOf letters) ≡ true)

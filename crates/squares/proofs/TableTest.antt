@@ -1,5 +1,5 @@
 -- The test on which distinctness, inverse look-up and apartness rest, over the table of 13 by 53 that the code reads (its constant is
--- `squareTable`: `square_table` promises it). Of each filled entry, in the table's order: that it is the next of 01's filled squares, what
+-- `squareTable`: `square_table` promises it). Of each filled entry, in the table's order: that it is the next of the filled squares, what
 -- its mark and its follower make, the pair that its character is found at, and that the character is no supplementary one. What rests on
 -- it is in TableRule and Pairs.
 -- Assumes nothing.
@@ -45,7 +45,7 @@ table-test : map told filledEntries ≡ map wanted squares
 unfolding told wanted squareOf pairOf supplementary squareTable marks followers squares
 table-test = refl
 
--- ---- the table has 01's filled squares, in their order
+-- ---- the table has the filled squares, in their order
 
 told-square : Told → Square
 told-square (tell s x p o) = s

@@ -1,4 +1,4 @@
-// The squares of document 01: a mark and its follower, and the character of both.
+// The squares of the documents: a mark and its follower, and the character of both.
 mod table;
 
 use sorts::Found;

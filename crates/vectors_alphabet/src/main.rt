@@ -1,5 +1,5 @@
 // Prints what the alphabets answer, a line an answer, for the gate to hold against the file `stdout`,
-// which is made from document 01's own lists and from other decoders' answers, never from our code.
+// which is made from a model of the documents and from other decoders' answers, never from our code.
 mod peers;
 mod say;
 

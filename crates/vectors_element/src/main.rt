@@ -1,5 +1,5 @@
 // Runs the vectors of data/ through the crates of one element, and prints for each file how many there are, how many are answered wrong,
-// and the first few of these in full. The vectors are made from a model of document 01, never from our code.
+// and the first few of these in full. The vectors are made from a model of the documents, never from our code.
 //
 // A file has a heading and a line a vector: octets or words, a place, and the answer there, with commas between. An answer is
 // `00E9 > 02`, an element's words and the place after it; `!03 00 01`, a refusal's number in decimal, place and count; or `.`,

@@ -1,5 +1,5 @@
 // Runs the vectors of data/ through `serial`, and prints for each file how many there are, how many are answered wrong,
-// and the first few of these in full. The vectors are made from a model of documents 01 and 02, never from our code.
+// and the first few of these in full. The vectors are made from a model of the documents, never from our code.
 //
 // A file has a heading and a line a vector, with commas between: where a page starts, the calls, and the outcome of each. A page starts
 // with the form that it is made fresh with, and then making fresh is the first outcome; or, in carry.csv, with the fields of a carry.

@@ -1,5 +1,5 @@
 // Runs the vectors of data/ through `text`, and prints for each file how many there are, how many are answered wrong,
-// and the first few of these in full. The vectors are made from a model of document 01, never from our code.
+// and the first few of these in full. The vectors are made from a model of the documents, never from our code.
 //
 // A file has a heading and a line a vector, with commas between: the form, octets or words, the room that is lent, the four numbers
 // of the answer (the first in decimal), and the entries that it puts. A conversion has two forms, with a space between. Where one

@@ -59,11 +59,12 @@ fn is_listed(form: u32, ours: u32, theirs: u32) -> bool {
     }
 }
 
-// A code that it refuses: form 3's 23 and 24, and the grave, the circumflex and the tilde before SPACE.
+// A code that it refuses: form 3's 23 and 24, the grave, the circumflex and the tilde before SPACE, and the acute before g.
 fn is_refused(form: u32, first: u8, second: u8) -> bool {
     match first {
         0x23..=0x24 => form == 3,
         0xC1 => second == b' ',
+        0xC2 => second == b'g',
         0xC3..=0xC4 => second == b' ',
         _ => false,
     }

@@ -1,5 +1,5 @@
 // Runs the vectors of data/ through `tlx`, and prints for each file how many there are, how many are answered wrong,
-// and the first few of these in full. The vectors are made from a model of document 01, never from our code.
+// and the first few of these in full. The vectors are made from a model of the documents, never from our code.
 //
 // A file has a heading and a line a vector, with commas between.
 // Reading: the case, the room that is lent, the four numbers of the answer and the page beside them, and the words that it puts.

@@ -11,7 +11,8 @@ pub enum Refusal {
     BeginsNothing = 1,
     /// A shift or an escape: other alphabets are not read.
     Escape = 2,
-    /// What follows a mark or an underline may not.
+    /// What follows a mark or an underline may not. Small g with cedilla is C2 67 (19 42 67 in seven bits), as Annex A of T.51 codes it;
+    /// CB 67 (19 4B 67) is this refusal.
     NotAFollower = 3,
     /// The text ends inside an element.
     CutShort = 4,

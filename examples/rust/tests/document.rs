@@ -1,4 +1,4 @@
-//! The document's own examples, through the safe functions.
+//! The documents' own examples, through the safe functions.
 
 use oakentwirl::{
     convert, read, read_case, write, write_case, Error, Form, Refusal, Serial, Totals,
@@ -36,6 +36,24 @@ fn a_text_is_converted() {
     assert_eq!(seven, Ok(b"\x19Be".to_vec()));
     let canonical = convert(Form::Basic, Form::Basic, b"\x9B0;m");
     assert_eq!(canonical, Ok(b"\x9B;m".to_vec()));
+}
+
+/// Document 02, No. 2: Annex A codes small g with cedilla as C2 67.
+#[test]
+fn a_latvian_small_g_is_read_and_written() {
+    let spelt: [(Form, &[u8]); 3] = [
+        (Form::Eight, b"\xC2g"),
+        (Form::Seven, b"\x19Bg"),
+        (Form::Basic, b"\xC2g"),
+    ];
+    for (form, text) in spelt {
+        assert_eq!(read(form, text), Ok(vec![0x0123]));
+        assert_eq!(write(form, &[0x0123]), Ok(text.to_vec()));
+        let acute = error(Refusal::NotHeld, 0, 0, 0, 0);
+        assert_eq!(write(form, &[0x01F5]), Err(acute));
+    }
+    let cedilla = error(Refusal::NotAFollower, 0, 0, 1, 0);
+    assert_eq!(read(Form::Eight, b"\xCBg"), Err(cedilla));
 }
 
 #[test]
