@@ -1,5 +1,6 @@
--- The counts of the definitions. Document 01's: 95 primary characters and 73 supplementary, in form 3 89 and 53, 13 marks, 689 entries;
--- document 02's (No. 2): 155 pairs of a mark and a letter, 168 filled squares. Each mark has a combining character of its own.
+-- The counts of the definitions. Document 01's: 95 primary characters and 73 supplementary, in form 3 six fewer, which makes 89, and 53, 13
+-- marks, 689 entries; document 02's (No. 2): 155 pairs of a mark and a letter, 168 filled squares. Each mark has a combining character of
+-- its own.
 -- Assumes nothing.
 use Prim.Native.Nat.{_*_}
 use mathlib.Core.Path.{_≡_, refl}
