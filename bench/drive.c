@@ -1,8 +1,8 @@
 /* Does one job on one text so many times: the counts of two runs, with one round and with none, differ by what the job costs.
      drive JOB TEXT OCTETS ROUNDS
-   JOB: read-F, write-F, convert-F-G; feed-F-N, a page in pieces of N octets; iconv-F:FROM:TO, on the octets of form F;
-   iconv-words-F:NAME, which writes as NAME what iconv read of these octets from NAME. TEXT: ascii, nine-to-one, pairs, supplementary,
-   sequences. */
+   JOB: read-F, write-F, convert-F-G; list-F-N, which writes the first N words alone; feed-F-N, a page in pieces of N octets;
+   iconv-F:FROM:TO, on the octets of form F; iconv-words-F:NAME, which writes as NAME what iconv read of these octets from NAME.
+   TEXT: ascii, nine-to-one, pairs, supplementary, sequences. */
 #include <iconv.h>
 #include <stdint.h>
 #include <stdio.h>
@@ -169,6 +169,14 @@ int main(int argc, char **argv)
         expect(a);
         for (int i = 0; i < rounds; i++)
             expect(oak_write(form, words, a.count, out, sizeof out));
+    } else if (strncmp(job, "list", 4) == 0) {
+        size_t n = strtoul(digit + 2, NULL, 10);
+        struct oak_answer a = oak_read(form, text, size, words, MOST);
+        expect(a);
+        if (a.count < n)
+            fail("too few words");
+        for (int i = 0; i < rounds; i++)
+            expect(oak_write(form, words, n, out, sizeof out));
     } else if (strncmp(job, "convert", 7) == 0)
         for (int i = 0; i < rounds; i++)
             expect(oak_convert(form, digit[2] - '0', text, size, out, sizeof out));

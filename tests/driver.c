@@ -20,12 +20,12 @@
 #define STEP ((size_t)65536)
 #define ROOM (66 * STEP)
 
-enum ask { READ = 1, WRITE, CONVERT, CASE_READ, CASE_WRITE, LOOK_TOO_FAR, PUT_TOO_FAR, FRESH, CARRIED };
+enum ask { READ = 1, WRITE, CONVERT, CASE_READ, CASE_WRITE, LOOK_TOO_FAR, PUT_TOO_FAR, FRESH, CARRIED, EACH };
 enum side { MIDDLE, START, END };
 
 struct question {
     uint32_t ask, form, target;
-    uint32_t first;  /* octets or words of the text, or page lengths, or calls of a page that comes in pieces */
+    uint32_t first;  /* octets or words of the text, or page lengths, or calls of a page that comes in pieces, or code points from 0 on */
     uint32_t second; /* octets of the pages that a case is written from */
     uint32_t room;   /* entries of the buffer that is written */
 };
@@ -38,6 +38,23 @@ struct call {
 struct buffer {
     void *start;
     size_t octets;
+};
+
+/* Room for one character's spelling, and for its word, with some over. */
+#define SPELLING 8
+#define WORDS 2
+
+/* What is answered of one code point by itself: written; and where that is accepted, its octets read, and converted within the form. */
+struct point {
+    struct oak_answer written, read, converted;
+    uint8_t spelling[SPELLING], same[SPELLING];
+    uint32_t words[WORDS];
+};
+
+/* Code points one after another that are answered alike. */
+struct points {
+    uint64_t first, last;
+    struct point point;
 };
 
 /* What a carry has, without the octet at its end that no field has. */
@@ -160,6 +177,57 @@ static void feed_all(const struct question *q, enum side side, uint8_t *ins, uin
     }
 }
 
+/* Octets that no character's spelling has, so that each one that was written shows. */
+static void fill_unspelt(struct buffer b)
+{
+    uint8_t *octets = b.start;
+    for (size_t i = 0; i < b.octets; i++)
+        octets[i] = (uint8_t)(0x80 + i);
+}
+
+static struct point point_of(uint32_t form, uint32_t word, enum side side, uint8_t *ins, uint8_t *outs)
+{
+    struct point p = {0};
+    struct buffer one = lay(ins, side, 1, sizeof word);
+    struct buffer out = lay(outs, side, SPELLING, 1);
+    memcpy(one.start, &word, sizeof word);
+    fill_unspelt(out);
+    p.written = oak_write(form, one.start, 1, out.start, SPELLING);
+    memcpy(p.spelling, out.start, sizeof p.spelling);
+    if (p.written.number != OAK_ACCEPTED)
+        return p;
+
+    size_t count = p.written.count < SPELLING ? p.written.count : SPELLING;
+    struct buffer in = lay(ins, side, count, 1);
+    struct buffer words = lay(outs, side, WORDS, sizeof word);
+    if (count != 0)
+        memcpy(in.start, p.spelling, count);
+    fill_unspelt(words);
+    p.read = oak_read(form, in.start, count, words.start, WORDS);
+    memcpy(p.words, words.start, sizeof p.words);
+    fill_unspelt(out);
+    p.converted = oak_convert(form, form, in.start, count, out.start, SPELLING);
+    memcpy(p.same, out.start, sizeof p.same);
+    return p;
+}
+
+/* So many code points from 0 on, each by itself; those that are answered alike one after another are given once. */
+static void each(const struct question *q, enum side side, uint8_t *ins, uint8_t *outs)
+{
+    struct points alike = {0};
+    for (uint32_t word = 0; word < q->first; word++) {
+        struct point p = point_of(q->form, word, side, ins, outs);
+        if (word != 0 && memcmp(&p, &alike.point, sizeof p) != 0) {
+            give((struct buffer){&alike, sizeof alike});
+            alike.first = word;
+        }
+        alike.last = word;
+        alike.point = p;
+    }
+    if (q->first != 0)
+        give((struct buffer){&alike, sizeof alike});
+}
+
 static enum side side_of(int count, char **arguments)
 {
     static const char *const names[] = {"middle", "start", "end"};
@@ -179,6 +247,10 @@ int main(int count, char **arguments)
     while (fread(&q, sizeof q, 1, stdin) == 1) {
         if (q.ask == FRESH || q.ask == CARRIED) {
             feed_all(&q, side, ins, outs);
+            continue;
+        }
+        if (q.ask == EACH) {
+            each(&q, side, ins, outs);
             continue;
         }
         size_t in_width = q.ask == WRITE || q.ask == CASE_WRITE ? sizeof(uint32_t) : 1;

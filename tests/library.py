@@ -6,11 +6,14 @@
 octet of each lent buffer after the call, the ones that are only read too. Questions are all texts of up to two octets, read and
 converted; the vectors of make_text_vectors.py, make_serial_vectors.py and make_tlx_vectors.py; random texts, words and cases, whole and
 damaged; random pages up to the limit in random pieces, each beside its reading as a whole; carries that nobody made; and the longest texts.
+`points` asks of every code point up to 11FFFF, laid in the same three ways, how each form writes it, and how it reads and converts that.
 
 A question is six 32-bit numbers (what is asked, form, target, entries of the first buffer, octets of the second, room) and the two
 buffers; an answer is five 64-bit numbers and all three buffers. A page in pieces has its number of calls as the first buffer's entries,
 and then the fields of a carry if it is not made fresh. For each call follow three numbers (octets of the piece, whether the page ends,
-room) and the piece; its answer is the carry, the four numbers, how many words were handed out, and both buffers. Standard library only.
+room) and the piece; its answer is the carry, the four numbers, how many words were handed out, and both buffers. The question of code
+points has their number as the first buffer's entries, and no buffer; its answer is a record of POINTS for each run of them that are
+answered alike. Standard library only.
 """
 from __future__ import annotations
 
@@ -23,7 +26,7 @@ import struct
 import subprocess
 import sys
 import tempfile
-from typing import Iterable, Iterator, NamedTuple, Sequence, Union
+from typing import Iterable, Iterator, NamedTuple, Optional, Sequence, Union
 
 sys.dont_write_bytecode = True
 import examples
@@ -32,7 +35,7 @@ import make_text_vectors as texts
 import make_tlx_vectors as cases
 import model
 
-READ, WRITE, CONVERT, CASE_READ, CASE_WRITE, LOOK_TOO_FAR, PUT_TOO_FAR, FRESH, CARRIED = range(1, 10)
+READ, WRITE, CONVERT, CASE_READ, CASE_WRITE, LOOK_TOO_FAR, PUT_TOO_FAR, FRESH, CARRIED, EACH = range(1, 11)
 OCTET, WORD = 1, 4
 SIDES = ("middle", "start", "end")
 SEED = 61
@@ -46,6 +49,12 @@ REFUSED_ROOM = 3
 
 # What the driver fills a buffer with: it comes again after 256 octets.
 FILL = bytes((37 * place + 11) % 256 for place in range(256))
+
+# Past the last code point there is, 10FFFF, by a plane. What the driver says of those that are answered alike: the first and the last;
+# the numbers of writing, of reading and of converting; and the buffers of writing, converting and reading.
+CODE_POINTS = 0x120000
+POINTS = struct.Struct("<2Q12Q8s8s8s")
+UNSPELT = bytes(range(0x80, 0x88))  # what it fills these buffers with: octets that no character's spelling has
 
 
 class Asked(NamedTuple):
@@ -336,6 +345,94 @@ def compare(driver: Sequence[str], folder: pathlib.Path) -> tuple[int, int]:
     return passed, failed
 
 
+class Outcome(NamedTuple):
+    """What a call answers, and all of its buffer after it."""
+
+    answer: model.Answer
+    buffer: bytes
+
+
+class Point(NamedTuple):
+    """What is answered of one code point: written; and where that is accepted, its octets read, and converted within the form."""
+
+    written: Outcome
+    read: Optional[Outcome] = None
+    converted: Optional[Outcome] = None
+
+
+def outcome_of(answer: model.Answer, put: bytes) -> Outcome:
+    return Outcome(answer, put + UNSPELT[len(put) :])
+
+
+def point_of(form: int, codepoint: int) -> Point:
+    """Of the model; what it writes must read as this one word, and stay as it is where it is converted."""
+    answer, octets = model.write_text(form, [codepoint], len(UNSPELT))
+    written = outcome_of(answer, bytes(octets))
+    if answer.number:
+        return Point(written)
+    read = outcome_of(model.Answer(0, 1, answer.count, 1), words_octets([codepoint]))
+    return Point(written, read, outcome_of(model.Answer(0, 1, answer.count, answer.count), bytes(octets)))
+
+
+def points_of(form: int) -> list[Point]:
+    """Of the model, by code point; those that are alike are kept once."""
+    kept: dict[Point, Point] = {}
+    return [kept.setdefault(point, point) for point in (point_of(form, codepoint) for codepoint in range(CODE_POINTS))]
+
+
+def points_told(records: bytes) -> list[Point]:
+    """Of the library, by code point; up to where the driver's records end, or do not follow one another."""
+    told: list[Point] = []
+    for first, last, *rest in POINTS.iter_unpack(records[: len(records) // POINTS.size * POINTS.size]):
+        if first != len(told):
+            break
+        written, read, converted = (model.Answer(*rest[at : at + 4]) for at in (0, 4, 8))
+        spelling, same, words = rest[12:]
+        others = [] if written.number else [Outcome(read, words), Outcome(converted, same)]
+        told += [Point(Outcome(written, spelling), *others)] * (last - first + 1)
+    return told
+
+
+def in_words(outcome: Optional[Outcome], width: int) -> str:
+    """The answer, the entries that it says are written, and whether the buffer was left alone behind them."""
+    if not outcome:
+        return "nothing"
+    number, *places = outcome.answer
+    put = 0 if number else min(width * outcome.answer.count, len(UNSPELT))
+    entries = [f"{int.from_bytes(outcome.buffer[at : at + width], 'little'):0{2 * width}X}" for at in range(0, put, width)]
+    behind = "" if outcome.buffer[put:] == UNSPELT[put:] else f", the rest of the buffer altered: {outcome.buffer[put:].hex(' ').upper()}"
+    return " ".join([f"refused with {number}" if number else "accepted", str(tuple(places)), *entries]) + behind
+
+
+def tell_point(where: str, answered: Optional[Point], expected: Optional[Point]) -> None:
+    """Says of a code point that is not answered as it should be what was answered, and what was expected."""
+    parts = zip(("written", "read back", "converted"), answered or (None,) * 3, expected or (None,) * 3, (OCTET, WORD, OCTET))
+    for name, one, other, width in parts:
+        if one != other:
+            print(f"  {where}, {name}: {in_words(one, width)}; expected: {in_words(other, width)}")
+
+
+def points(driver: Sequence[str]) -> tuple[int, int]:
+    """How many code points are answered as the model has it, in each form and with the buffers laid in three ways, and how many are not."""
+    passed = failed = 0
+    for form in model.FORMS:
+        expected = points_of(form)
+        question = struct.pack("<6I", EACH, form, 0, CODE_POINTS, 0, 0)
+        for side in SIDES:
+            run = subprocess.run([*driver, side], input=question, stdout=subprocess.PIPE, check=False)
+            told = points_told(run.stdout)
+            both = enumerate(itertools.zip_longest(told, expected))
+            others = [] if told == expected else [(codepoint, one, other) for codepoint, (one, other) in both if one != other]
+            alike, accepted = CODE_POINTS - len(others), sum(point.written.answer.number == 0 for point in told)
+            laid = f"form {form}, buffers at the {side} of memory"
+            print(f"code points, {laid}: {alike:,} of {CODE_POINTS:,} alike, {accepted} accepted, exit status {run.returncode}")
+            for codepoint, one, other in others[:3]:
+                tell_point(f"code point {codepoint:04X}, {laid}", one, other)
+            passed += alike
+            failed += len(others) + (run.returncode != 0)
+    return passed, failed
+
+
 def guarded(driver: Sequence[str]) -> tuple[int, int]:
     """That one octet too far, read or written, on the side of the unreadable page, ends the run."""
     passed = failed = 0
@@ -358,6 +455,7 @@ def main(folder: pathlib.Path, emulator: Sequence[str]) -> int:
     results = [guarded(driver)]
     with tempfile.TemporaryDirectory(dir=folder) as large:
         results += [compare(driver, pathlib.Path(large))]
+    results += [points(driver)]
     results += [examples.check("C", [*emulator, str(folder / "convert-c")], folder), examples.check_readme("Use it from C")]
     results += [examples.check_serial([*emulator, str(folder / "serial-c")], folder), examples.check_readme("Read a page as it comes")]
     results += [examples.check_readme("Read a Latvian card")]

@@ -1,5 +1,6 @@
 #!/usr/bin/env python3
-"""Writes the tables of the alphabets' source: what each octet is in a form, the squares, the supplementary set.
+"""Writes the tables of the alphabets' source: what each octet is in a form; the squares and the supplementary
+set, from either side; and how each character is spelt in a form.
 
     make_tables.py            writes the files
     make_tables.py --check    only compares them, with exit status 1 where one is not as it would be written
@@ -25,9 +26,12 @@ ROWS = list(model.MARKS)
 # "What an octet is by itself, as one number": from here on there is no character.
 NO_CHARACTER = 0x8000
 
+# How many characters a page of what is looked up by a character has.
+PAGE = 32
 
-def entry(number: int) -> str:
-    return f"0x{number:04X}" if number else "0"
+
+def entry(number: int, digits: int = 4) -> str:
+    return f"0x{number:0{digits}X}" if number else "0"
 
 
 def table(name: str, of: str, lines: Iterable[str]) -> Iterator[str]:
@@ -35,6 +39,15 @@ def table(name: str, of: str, lines: Iterable[str]) -> Iterator[str]:
     yield f"pub const {name}: {of} = ["
     yield from ("    " + line for line in lines)
     yield "];"
+
+
+def pages(of: str, numbers: dict[int, int], digits: int) -> Iterator[str]:
+    """The pages in which some character has a number, each named by its first character. 0 is none."""
+    for page in sorted({character // PAGE for character in numbers}):
+        first = page * PAGE
+        found = (numbers.get(character, 0) for character in range(first, first + PAGE))
+        yield ""
+        yield from table(f"FROM_{first:04X}", f"[{of}; {PAGE}]", (f"{entry(number, digits)}," for number in found))
 
 
 # crates/lent_tables/src/codes.rt
@@ -80,12 +93,42 @@ def square_lines() -> Iterator[str]:
 def squares_file() -> Iterator[str]:
     yield "// The table of squares: 13 rows, one a mark, of 53 followers: A to Z, a to z, SPACE. 0 is an empty square."
     yield from table("SQUARES", "[[u16; 53]; 13]", square_lines())
-    yield ""
-    yield "// The marks, one a row."
-    yield from table("MARKS", "[u8; 13]", (f"0x{octet:02X}," for octet in ROWS))
-    yield ""
-    yield "// The followers, one a column."
-    yield f'pub const FOLLOWERS: [u8; 53] = *b"{bytes(COLUMNS).decode("ascii")}";'
+
+
+# crates/squares/src/pages.rt
+
+
+def pair_pages_file() -> Iterator[str]:
+    yield "// The pair of each character: 0x100 times its mark, and its follower; 0 is none. Pages of 32, named by their first character."
+    yield from pages("u16", {character: 0x100 * mark + follower for character, (mark, follower) in model.SQUARE_OF.items()}, 4)
+
+
+# crates/spelling_tables/src/eight.rt, seven.rt, basic.rt
+
+# The code points that have a place of their own in the table of packed spellings, range by range.
+RANGES = [(0x0000, 0x017F), (0x02C7, 0x02DD), (0x2015, 0x201D), (0x2122, 0x2126), (0x215B, 0x215E), (0x2190, 0x2193), (0x266A, 0x266A)]
+
+
+def packed(form: int, codepoint: int) -> int:
+    """How many octets, times 2^24, and the octets, the last of them lowest; 0 where the form lacks the character."""
+    octets = model.spell(form, codepoint) or []
+    return (len(octets) << 24) + int.from_bytes(octets, "big")
+
+
+def packed_lines(form: int) -> Iterator[str]:
+    for first, last in RANGES:
+        for codepoint in range(first, last + 1):
+            if codepoint == first or codepoint % 16 == 0:
+                yield f"// {codepoint:04X}"
+            number = packed(form, codepoint)
+            yield f"0x{number:08X}," if number else "0,"
+
+
+def spellings_file(form: int) -> Iterator[str]:
+    number = "how many octets, times 2^24, and the octets. 0 is none."
+    yield f"// The canonical spelling of each character in form {form}, as one number: {number}"
+    size = sum(last - first + 1 for first, last in RANGES)
+    yield from table("SPELLINGS", f"[u32; {size}]", packed_lines(form))
 
 
 # crates/sorts/src/supplementary.rt
@@ -97,10 +140,23 @@ def supplementary_file() -> Iterator[str]:
     yield from table("SUPPLEMENTARY", "[u16; 96]", lines)
 
 
+# crates/sorts/src/pages.rt
+
+
+def spacing_pages_file() -> Iterator[str]:
+    yield "// The octet of A0 to FF of each character in forms 1 and 2; 0 is none. Pages of 32, named by their first character."
+    yield from pages("u8", {character: octet for octet, character in model.SUPPLEMENTARY.items()}, 2)
+
+
 FILES = {
     "crates/sorts/src/supplementary.rt": supplementary_file,
+    "crates/sorts/src/pages.rt": spacing_pages_file,
     "crates/squares/src/table.rt": squares_file,
+    "crates/squares/src/pages.rt": pair_pages_file,
     "crates/lent_tables/src/codes.rt": codes_file,
+    "crates/spelling_tables/src/eight.rt": lambda: spellings_file(1),
+    "crates/spelling_tables/src/seven.rt": lambda: spellings_file(2),
+    "crates/spelling_tables/src/basic.rt": lambda: spellings_file(3),
 }
 
 

@@ -1,10 +1,9 @@
 -- What a lent table's entries say of the form: what a reader above relies on, who looks into no table itself.
 -- Assumes nothing.
-use Prim.Native.Nat.{ℕ, zero, suc, _+_, _-_, _≤_, _<_}
+use Prim.Native.Nat.{ℕ, _+_, _-_, _≤_, _<_}
 use mathlib.Core.Path.{_≡_, refl, sym, ap, _∙_}
-use mathlib.Core.List.{List, [], map}
+use mathlib.Core.List.{List, []}
 use mathlib.Core.Bool.{Bool, true, false}
-use native.Mathlib.Nat.{add-zero, add-suc, suc-add, le-of-suc-le-suc, not-suc-le-zero}
 use native.Mathlib.Omega.{arith}
 use lib.Dec.{leb}
 use lib.ListN.{getD}
@@ -13,19 +12,14 @@ use Rattle.run.specs.Choice.{pick}
 use Rattle.sorts.specs.declared.Form.{Form}
 use Rattle.sorts.specs.declared.Sort.{Sort}
 use Rattle.sorts.specs.declared.Sort.the-variants.{Graphic, Mark, Underline, Shift, Control, SequenceStart, Refused}
-use Rattle.sorts.specs.Tables.{consecutive}
 use Rattle.squares.specs.Squares.{rowOf, columnOf, squareTable, squareIn}
 use Rattle.sorts.specs.Sorts.{sortIn}
 use Rattle.lent_tables.specs.CodeTables.{noCharacter, neither, codeOf, codeTable, codeIn, pairedIn, ListedPair}
+use Rattle.sorts.proofs.TablePages.{at-consecutive}
 use Rattle.sorts.proofs.SortFacts.{graphic-small, mark-small}
 use Rattle.squares.proofs.Pairs.{filled}
 
 -- ---- what an octet is by itself
-
-at-consecutive : (g : ℕ → ℕ) (a n k : ℕ) → k < n → getD (map g (consecutive a n)) k 0 ≡ g (a + k)
-at-consecutive g a zero k h = absurd (not-suc-le-zero h)
-at-consecutive g a (suc n) zero h = ap g (sym (add-zero a))
-at-consecutive g a (suc n) (suc k) h = at-consecutive g (suc a) n k (le-of-suc-le-suc h) ∙ ap g (suc-add a k ∙ sym (add-suc a k))
 
 at-octet : (f : Form) (o : ℕ) → o < 256 → codeIn (codeTable f) o ≡ codeOf (sortIn f o)
 unfolding codeTable

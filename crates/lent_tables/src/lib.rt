@@ -34,7 +34,7 @@ pub fn paired_in(table: &[[u16; 53]; 13], code: u32, follower: u8) -> u32
     }
     squares::square_in(
         table,
-        (code - NO_CHARACTER) as usize,
+        code as usize - NO_CHARACTER as usize,
         squares::column_of(follower),
     )
 }

@@ -8,6 +8,7 @@ pub mod Search
 pub mod Puts
 pub mod FromPlace
 pub mod Loops
+pub mod Onward
 pub mod Rooms
 pub mod Spellers
 pub mod SpeltLoops

@@ -25,7 +25,7 @@ abbrev pub single : List (List ℕ) → ℕ → Bool
 single [] k = false
 single (ks ∷ kss) k = hasKey ks k || single kss k
 
-none-single : (kss : List (List ℕ)) (k : ℕ) → Rest kss k → T (single kss k) → ⊥
+pub none-single : (kss : List (List ℕ)) (k : ℕ) → Rest kss k → T (single kss k) → ⊥
 none-single [] k n t = t
 none-single (ks ∷ kss) k n t = ⊎-elim (λ h. n .1 (hit ks k h)) (λ h. none-single kss k (n .0) h) (or-yes (hasKey ks k) (single kss k) t)
 

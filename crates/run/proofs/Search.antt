@@ -1,14 +1,13 @@
--- A look-up by key: what it finds is a member of the list; and a loop that goes through a table, place by place, finds the same.
+-- A look-up by key: what it finds is a member of the list; what holds of each entry holds of what is found. The filled places of a table.
 -- Assumes nothing.
-use Prim.Native.Nat.{ℕ, zero, suc, _+_, _-_, _<_}
-use mathlib.Core.Path.{_≡_, refl, sym, ap, _∙_}
-use mathlib.Core.List.{List, [], _∷_, _++_, List·Memᴰ, List·Memᴰ·head, List·Memᴰ·tail}
+use Prim.Native.Nat.{ℕ, zero, suc}
+use mathlib.Core.Path.{_≡_, refl, sym, ap, subst, _∙_}
+use mathlib.Core.List.{List, [], _∷_, _++_, map, List·Memᴰ, List·Memᴰ·head, List·Memᴰ·tail}
 use mathlib.Core.Bool.{Bool, true, false}
-use native.Mathlib.Numerals.{add-one}
-use native.Mathlib.Omega.{arith}
-use lib.Dec.{eqb}
-use borrow.Author.Tests.{eqb-true, eq-eqb, ne-eqb}
+use lib.Dec.{eqb, T}
+use borrow.Author.Tests.{eqb-true}
 use Rattle.run.specs.Choice.{pick, firstBy}
+use Rattle.run.proofs.Members.{same-first, same-rest}
 
 module _ {A B : Type 0} (key : A → ℕ) (gives : A → B) (missing : B) where
   -- an entry of the list that has the key and gives what was found
@@ -43,37 +42,30 @@ module _ {A B : Type 0} (key : A → ℕ) (gives : A → B) (missing : B) where
   found-first [] m k b n e = absurd (n e)
   found-first (a ∷ l) m k b n e = append-by a l m k b (eqb (key a) k) (found-first l m k b n) e
 
-  -- ---- a table, gone through place by place: `table i` is 0 where the place i is empty, else the key of its entry `at i`
-  module _ (table : ℕ → ℕ) (at : ℕ → A) (keyed : (i : ℕ) → key (at i) ≡ table i) (size : ℕ) where
-    -- the entries of n places from i on
-    abbrev pub filled : ℕ → ℕ → List A
-    filled i zero = []
-    filled i (suc n) = let more = filled (suc i) n in pick (eqb (table i) 0) more (at i ∷ more)
+  found-by : {C : Type 0} (f g : B → C) (t : Bool) (a b : B) → f a ≡ g a → f b ≡ g b → f (pick t a b) ≡ g (pick t a b)
+  found-by f g true a b p q = p
+  found-by f g false a b p q = q
 
-    module _ (k : ℕ) (answer : B) where
-      -- what the loop keeps: the answer is still to be found in what is left of the table
-      abbrev pub Left : ℕ → Type 0
-      Left i = answer ≡ firstBy key gives missing (filled i (size - i)) k
+  -- f and g agree at what is found, where they agree at what is missing and at what each entry gives
+  pub found-alike : {C : Type 0} (f g : B → C) (l : List A) → f missing ≡ g missing → map (λ a. f (gives a)) l ≡ map (λ a. g (gives a)) l
+      → (k : ℕ) → f (firstBy key gives missing l k) ≡ g (firstBy key gives missing l k)
+  found-alike f g [] m e k = m
+  found-alike f g (a ∷ l) m e k =
+      found-by f g (eqb (key a) k) (gives a) (firstBy key gives missing l k) (same-first e) (found-alike f g l m (same-rest e) k)
 
-      missed : (i : ℕ) (more : List A) (t : Bool) → eqb (table i) k ≡ false
-          → firstBy key gives missing (pick t more (at i ∷ more)) k ≡ firstBy key gives missing more k
-      missed i more true e = refl
-      missed i more false e = rw (keyed i, e)
+  unmet-by : (test : ℕ → Bool) (a : A) (k : ℕ) (b : B) (t : Bool) → eqb (key a) k ≡ t → test (key a) ≡ true → (T (test k) → ⊥)
+      → b ≡ missing → pick t (gives a) b ≡ missing
+  unmet-by test a k b true q met n e = absurd (n (subst T (sym (sym (ap test (eqb-true (key a) k q)) ∙ met)) tt))
+  unmet-by test a k b false q met n e = e
 
-      one-more : (i : ℕ) → i < size → size - i ≡ suc (size - (i + 1))
-      one-more i h = omega arith
+  -- nothing is found by a key that fails a test which each entry's key meets
+  pub unmet : (test : ℕ → Bool) (l : List A) → map (λ a. test (key a)) l ≡ map (λ a. true) l → (k : ℕ) → (T (test k) → ⊥)
+      → firstBy key gives missing l k ≡ missing
+  unmet test [] met k n = refl
+  unmet test (a ∷ l) met k n =
+      unmet-by test a k (firstBy key gives missing l k) (eqb (key a) k) refl (same-first met) n (unmet test l (same-rest met) k n)
 
-      pub goes-on : (i : ℕ) → i < size → Left i → (table i ≡ k → ⊥) → Left (i + 1)
-      goes-on i h l n =
-          l
-          ∙ ap (λ (m : ℕ). firstBy key gives missing (filled i m) k) (one-more i h)
-          ∙ missed i (filled (suc i) (size - (i + 1))) (eqb (table i) 0) (ne-eqb (table i) k n)
-          ∙ ap (λ (m : ℕ). firstBy key gives missing (filled m (size - (i + 1))) k) (sym (add-one i))
-
-      pub hits : (i : ℕ) → i < size → Left i → (k ≡ 0 → ⊥) → table i ≡ k → gives (at i) ≡ answer
-      hits i h l z e =
-          sym (l ∙ ap (λ (m : ℕ). firstBy key gives missing (filled i m) k) (one-more i h) ∙ simp
-          (e, ne-eqb k 0 z, keyed i, eq-eqb k k refl))
-
-      pub at-end : (i : ℕ) → i ≡ size → Left i → missing ≡ answer
-      at-end i e l = sym (l ∙ ap (λ (m : ℕ). firstBy key gives missing (filled i m) k) (let z : size - i ≡ 0 = omega arith in z))
+-- the entries of n places of a table from i on: `table i` is 0 where the place i is empty, else the key of its entry `at i`
+abbrev pub filled : {A : Type 0} → (ℕ → ℕ) → (ℕ → A) → ℕ → ℕ → List A
+filled table at i zero = []
+filled table at i (suc n) = let more = filled table at (suc i) n in pick (eqb (table i) 0) more (at i ∷ more)

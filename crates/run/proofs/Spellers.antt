@@ -8,9 +8,10 @@ use mathlib.Core.List.{List, [], _∷_, _++_}
 use native.Mathlib.Omega.{arith}
 use lib.ListN.{length}
 use Rattle.run.specs.Loops.{Bounded}
-use Rattle.run.specs.Head.{Head, element, refused, none}
-use Rattle.run.specs.Grammar.{Begins, Reads}
+use Rattle.run.specs.Head.{Head, element, refused, none, accepted, outcome}
+use Rattle.run.specs.Grammar.{Begins, Reads, Run, done, more}
 use Rattle.run.specs.Answers.{same}
+use Rattle.run.proofs.Outcomes.{accepts}
 use Rattle.run.specs.Speller.{SpeltBy, entriesOr10, speltHead, speltBy, Why, by-head, not-spelt}
 
 -- ---- grammars that say the same
@@ -155,3 +156,15 @@ module _ {X A : Type 0} {head : List X → Head A} {S : List X → A → Type 0}
   -- and gives at most so many entries, if the speller does
   pub spelt-bounded : {most : ℕ} → ((e : A) → length (speller e) ≤ most) → Bounded (SpeltBy speller S) same most
   spelt-bounded {most} short = record { bound = λ p s h. subst (λ (l : List ℕ). length l ≤ most) (h .gives) (short (h .of)) }
+
+  -- a list that is spelt is read
+  run-read : {s : List X} {ps : List (List X)} {ss : List (List ℕ)} → Run (SpeltBy speller S) s ps ss → (es : List A) × Run S s ps es
+  run-read done = ([], done)
+  run-read (more h r) = let i = run-read r in (h .of ∷ i .0, more (h .spells) (i .1))
+
+  pub spelt-read : (s : List X) (ss : List (List ℕ)) → outcome (speltBy speller head) s ≡ accepted ss
+      → (es : List A) × (outcome head s ≡ accepted es)
+  spelt-read s ss q =
+      let r = accepts spelt-reads s ss .0 q in
+      let i = run-read (r .1) in
+      (i .0, accepts laws s (i .0) .1 (r .0, i .1))

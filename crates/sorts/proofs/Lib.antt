@@ -1,6 +1,7 @@
 mod Upper
 mod Spacings
 pub mod Tests
+pub mod TablePages
 pub mod Lookups
 pub mod Sorted
 pub mod FormNumbers

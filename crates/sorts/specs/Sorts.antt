@@ -2,7 +2,7 @@
 -- of a form (`sortIn`, `shiftedIn` and what they are made of). To be believed: `sortNumber`, `startNumber`, `afterShiftNumber` and the
 -- lists and the test that they ask (`tooHigh`, `beginnings`, `codedAfterShift`). Behind them, a law's word and parts of the code.
 -- Assumes nothing.
-use Prim.Native.Nat.{ℕ, _+_}
+use Prim.Native.Nat.{ℕ, _+_, _*_}
 use mathlib.Core.Path.{_≡_}
 use mathlib.Core.Logic.{_⊎_}
 use mathlib.Core.Bool.{Bool, false}
@@ -14,8 +14,10 @@ use Rattle.sorts.specs.declared.Sort.{Sort}
 use Rattle.sorts.specs.declared.Sort.the-variants.{Graphic, Mark, Underline, Shift, Control, SequenceStart, Refused}
 use Rattle.sorts.specs.declared.Found.{Found}
 use Rattle.sorts.specs.declared.Found.the-variants.{Char, Nothing}
-use Rattle.sorts.specs.Cells.{octet, charIn, number}
-use Rattle.sorts.specs.Tables.{supplementary}
+use Rattle.sorts.specs.declared.Octet.{Octet}
+use Rattle.sorts.specs.declared.Octet.the-variants.{Is, Absent}
+use Rattle.sorts.specs.Cells.{octet, charIn, octetIn, number}
+use Rattle.sorts.specs.Tables.{consecutive, supplementary}
 use Rattle.sorts.specs.Forms.{Alphabet, alphabetOf}
 
 -- ---- to be believed
@@ -122,3 +124,17 @@ upperAt i = pick (leb 96 i) 0 (number (charIn supplementary (0xA0 + i)))
 unfoldable pub spacingOf : ℕ → Sort
 unfolding supplementary
 spacingOf o = graphicOr (charIn supplementary o) (Refused 1)
+
+-- a table by pages: the entries of the 32 numbers from 32 times the page's on
+abbrev pub pageOf : (ℕ → ℕ) → ℕ → List ℕ
+pageOf f page = map f (consecutive (page * 32) 32)
+
+-- an octet as an entry of a table: 0 where there is none
+abbrev pub octetNumber : Octet → ℕ
+octetNumber (Is o) = o
+octetNumber Absent = 0
+
+-- the supplementary octets of a page's characters
+unfoldable pub spacingPage : ℕ → List ℕ
+unfolding supplementary
+spacingPage = pageOf (λ c. octetNumber (octetIn supplementary c))

@@ -1,9 +1,10 @@
 // The forms of document 01, and what an octet begins in each.
+mod pages;
 mod supplementary;
 
 ghost use mathlib.Core.Path.{_≡_};
 ghost use Rattle.sorts.specs.Promises.{FormOfPromise, WidePromise, SortInPromise, SortShiftedPromise, FindSpacingPromise};
-ghost use Rattle.sorts.specs.Sorts.{sortIn, shiftedIn, entry, upperAt, spacingOf};
+ghost use Rattle.sorts.specs.Sorts.{sortIn, shiftedIn, entry, upperAt, spacingOf, spacingPage};
 
 // The forms of text: T51String in eight bits and in seven, basic T.61.
 pub enum Form {
@@ -195,19 +196,36 @@ pub fn sort_shifted(form: Form, octet: u8) -> Sort
     }
 }
 
-// The supplementary octet of a character, looked for octet by octet.
+// The supplementary octets of the 32 characters from 32 times a page's number on: 0 where there is none. The pages are small, as a look-up
+// in a constant copies the whole of it.
+fn spacing_page(page: u32) -> [u8; 32]
+    ensures { λ r. ⌜ r ≡ spacingPage page ⌝ }
+{
+    match page {
+        0x005 => pages::FROM_00A0,
+        0x006 => pages::FROM_00C0,
+        0x007 => pages::FROM_00E0,
+        0x008 => pages::FROM_0100,
+        0x009 => pages::FROM_0120,
+        0x00A => pages::FROM_0140,
+        0x00B => pages::FROM_0160,
+        0x100 => pages::FROM_2000,
+        0x109 => pages::FROM_2120,
+        0x10A => pages::FROM_2140,
+        0x10C => pages::FROM_2180,
+        0x133 => pages::FROM_2660,
+        _ => [0; 32],
+    }
+}
+
+// The supplementary octet of a character, looked up in its page.
 pub fn find_spacing(c: u32) -> Octet
     ensures { λ r. ⌜ FindSpacingPromise c r ⌝ }
 {
-    if c == 0 {
+    let page = spacing_page(c / 32);
+    let octet = page[(c % 32) as usize];
+    if octet == 0 {
         return Octet::Absent;
     }
-    let mut i: usize = 0;
-    while i < 96 {
-        if upper_at(i) == c {
-            return Octet::Is((0xA0 + i) as u8);
-        }
-        i += 1;
-    }
-    Octet::Absent
+    Octet::Is(octet)
 }

@@ -1,20 +1,23 @@
--- The table read square by square is the definition's list of squares, so a search of the one is a search of the other; and a look-up in
--- the table is a look-up in the rows.
+-- A look-up in the table of squares is a look-up in the rows; and a look-up in the pages of pairs is one in the list of squares.
 -- Assumes nothing.
-use Prim.Native.Nat.{ℕ, _+_, _<_}
+use Prim.Native.Nat.{ℕ, _/_, _%_, _<_}
 use mathlib.Core.Path.{_≡_, refl, sym, ap, _∙_}
-use mathlib.Core.List.{List}
+use mathlib.Core.Bool.{true}
+use mathlib.Core.List.{List, [], _∷_}
 use lib.Dec.{eqb}
-use borrow.Author.Tests.{eq-eqb, ne-eqb, lt-leb}
+use lib.ListN.{getD}
+use borrow.Author.Tests.{eq-eqb, ne-eqb}
 use Rattle.run.specs.Choice.{pick}
-use Rattle.run.proofs.Range.{listed, within²}
-use Rattle.run.proofs.Search.{Left, goes-on, hits, at-end}
+use Rattle.run.proofs.Range.{listed, within², Rest, single}
+use Rattle.run.proofs.Search.{found-alike}
 use Rattle.sorts.specs.declared.Found.{Found}
 use Rattle.sorts.specs.declared.Found.the-variants.{Char, Nothing}
+use Rattle.sorts.specs.Sorts.{pageOf}
+use Rattle.sorts.proofs.Tests.{Alike}
+use Rattle.sorts.proofs.TablePages.{in-page, empty-page}
 use Rattle.squares.specs.declared.Pairing.the-variants.{Nowhere}
-use Rattle.squares.specs.Squares.{Square, character, pairing, pairIn, pairOf, squareOf, rowOf, columnOf, pairAt, squareTable}
-use Rattle.squares.specs.Squares.{squareIn}
-use Rattle.squares.proofs.TableTest.{placeEntry, squareAt, squares-filled}
+use Rattle.squares.specs.Squares.{character, pairing, squares, pairOf, squareOf, rowOf, columnOf, squareTable, squareIn}
+use Rattle.squares.specs.Squares.{pairNumber, pairFrom, pairPage}
 
 -- an entry of the table of the code
 abbrev pub entryAt : ℕ → ℕ → ℕ
@@ -49,25 +52,29 @@ module _ (m l r c x : ℕ) (er : r ≡ rowOf m) (ec : c ≡ columnOf l) (ex : x 
 
 -- ---- from a character to its pair
 
--- what the loop of `find_pair` keeps, and its ways out
-module _ (c : ℕ) where
-  abbrev pub Left-pair : ℕ → Type 0
-  Left-pair = Left character pairing Nowhere placeEntry squareAt (λ i. refl) 689 c (pairOf c)
+-- the pages of `pair_page`, from its last arm
+abbrev pub pairPages : List (List ℕ)
+pairPages =
+    (0x16 ∷ []) ∷ (0x0B ∷ []) ∷ (0x0A ∷ []) ∷ (0x09 ∷ []) ∷ (0x08 ∷ []) ∷ (0x07 ∷ []) ∷ (0x06 ∷ []) ∷ (0x05 ∷ []) ∷ (0x03 ∷ []) ∷
+    (0x02 ∷ []) ∷ []
 
-  pub pair-start : Left-pair 0
-  unfolding pairOf
-  pair-start = ap (λ (s : List Square). pairIn s c) squares-filled
+-- the test: the character of each filled square is in one of them
+pages-test : Alike (λ s. single pairPages (character s / 32)) (λ s. true) squares
+unfolding squares
+pages-test = refl
 
-  pub pair-on : (i : ℕ) → i < 689 → Left-pair i → (placeEntry i ≡ c → ⊥) → Left-pair (i + 1)
-  pair-on = goes-on character pairing Nowhere placeEntry squareAt (λ i. refl) 689 c (pairOf c)
+pub no-pair-page : (page : ℕ) → Rest pairPages page → pageOf (λ c. 0) page ≡ pairPage page
+unfolding pairPage pairOf
+no-pair-page = empty-page character pairing Nowhere pairNumber squares pairPages pages-test refl
 
-  pub pair-here : (i : ℕ) → i < 689 → Left-pair i → (c ≡ 0 → ⊥) → placeEntry i ≡ c → pairAt i ≡ pairOf c
-  unfolding pairAt
-  pair-here i h l z e = rw (lt-leb 689 i h) (hits character pairing Nowhere placeEntry squareAt (λ i. refl) 689 c (pairOf c) i h l z e)
+-- the test: each pair is what is made of its number
+pair-test : Alike (λ s. pairFrom (pairNumber (pairing s))) pairing squares
+unfolding squares
+pair-test = refl
 
-  pub pair-end : (i : ℕ) → i ≡ 689 → Left-pair i → Nowhere ≡ pairOf c
-  pair-end = at-end character pairing Nowhere placeEntry squareAt (λ i. refl) 689 c (pairOf c)
-
-pub no-pair-at-0 : (c : ℕ) → c ≡ 0 → Nowhere ≡ pairOf c
-unfolding pairOf
-no-pair-at-0 c e = rw e
+-- what is made of the number in a character's page is its pair: `page` is what `pair_page` gave
+pub pair-there : (c : ℕ) (page : List ℕ) → page ≡ pairPage (c / 32) → pairFrom (getD page (c % 32) 0) ≡ pairOf c
+unfolding pairPage pairOf
+pair-there c page e =
+    ap pairFrom (ap (λ (l : List ℕ). getD l (c % 32) 0) e ∙ in-page (λ k. pairNumber (pairOf k)) c)
+    ∙ found-alike character pairing Nowhere (λ p. pairFrom (pairNumber p)) (λ p. p) squares refl pair-test c

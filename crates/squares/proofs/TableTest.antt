@@ -1,7 +1,7 @@
 -- The test on which distinctness, inverse look-up and apartness rest, over the table of 13 by 53 that the code reads (its constant is
 -- `squareTable`: `square_table` promises it). Of each filled entry, in the table's order: that it is the next of the filled squares, what
 -- its mark and its follower make, the pair that its character is found at, and that the character is no supplementary one. What rests on
--- it is in TableRule and Pairs.
+-- it is in TableRule.
 -- Assumes nothing.
 use Prim.Native.Nat.{ℕ, _/_, _%_}
 use mathlib.Core.Path.{_≡_, refl, sym, ap, _∙_}
@@ -16,8 +16,8 @@ use Rattle.sorts.specs.declared.Octet.the-variants.{Absent}
 use Rattle.sorts.specs.Cells.{octetIn}
 use Rattle.sorts.specs.Tables.{supplementary}
 use Rattle.squares.specs.declared.Pairing.{Pairing}
-use Rattle.squares.specs.declared.Pairing.the-variants.{Of, Nowhere}
-use Rattle.squares.specs.Squares.{Square, sq, character, pairing, squares, squareOf, pairOf, marks, followers, squareTable, squareIn}
+use Rattle.squares.specs.declared.Pairing.the-variants.{Of}
+use Rattle.squares.specs.Squares.{Square, sq, squares, squareOf, pairOf, marks, followers, squareTable, squareIn}
 
 -- the entry at a place, counted row by row
 abbrev pub placeEntry : ℕ → ℕ
@@ -28,7 +28,7 @@ squareAt i = sq (getD marks (i / 53) 0) (getD followers (i % 53) 0) (placeEntry 
 
 -- the filled ones of the 689 entries, in the table's order
 abbrev pub filledEntries : List Square
-filledEntries = filled character pairing Nowhere placeEntry squareAt (λ i. refl) 689 0 689
+filledEntries = filled placeEntry squareAt 0 689
 
 -- what is told of a filled square: itself, the character of its mark and follower, the pair of its character, the supplementary octet of it
 data Told : Type 0 where

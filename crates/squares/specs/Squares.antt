@@ -1,7 +1,7 @@
 -- To be believed: the squares of 13 marks by 53 followers, the character of a mark and its follower, and the pair of a character; behind
--- them, the table of 13 by 53 and its places, parts of the code.
+-- them, parts of the code: the table of 13 by 53 and its places, and the pages of pairs.
 -- Assumes nothing.
-use Prim.Native.Nat.{ℕ, suc, _+_, _-_, _/_, _%_}
+use Prim.Native.Nat.{ℕ, suc, _+_, _-_, _*_, _/_, _%_}
 use mathlib.Core.List.{List, [], _∷_, _++_, map}
 use lib.Dec.{eqb, leb}
 use lib.ListN.{length, getD}
@@ -12,6 +12,7 @@ use Rattle.squares.specs.declared.Pairing.{Pairing}
 use Rattle.squares.specs.declared.Pairing.the-variants.{Of, Nowhere}
 use Rattle.sorts.specs.Cells.{Cell, _is_, charIn, number}
 use Rattle.sorts.specs.Tables.{Row, row, rows, letters, consecutive}
+use Rattle.sorts.specs.Sorts.{pageOf}
 
 abbrev pub markOf : Row → ℕ
 markOf (row m k cs) = m
@@ -101,11 +102,6 @@ squareTable = map (λ m. map (λ l. number (squareOf m l)) followers) marks
 abbrev pub squareIn : List (List ℕ) → ℕ → ℕ → ℕ
 squareIn table r c = pick (leb 13 r) 0 (pick (leb 53 c) 0 (getD (getD table r []) c 0))
 
--- the mark and the follower at a place, counted row by row
-unfoldable pub pairAt : ℕ → Pairing
-unfolding marks followers
-pairAt i = pick (leb 689 i) Nowhere (Of (getD marks (i / 53) 0) (getD followers (i % 53) 0))
-
 -- the place of a mark's row, and how many rows there are where the octet is no mark
 abbrev pub placeIn : List Row → ℕ → ℕ
 placeIn [] m = 0
@@ -121,3 +117,19 @@ columnOf l =
     pick (within 0x41 0x5A l) (l - 0x41)
     (pick (within 0x61 0x7A l) (l - 0x47)
     (pick (eqb l 0x20) 52 53))
+
+-- ---- parts of the code: pages of pairs
+
+-- a pair as one number: 0x100 times its mark, and its follower; 0 where there is none
+abbrev pub pairNumber : Pairing → ℕ
+pairNumber (Of m l) = 0x100 * m + l
+pairNumber Nowhere = 0
+
+-- and a number as that pair
+abbrev pub pairFrom : ℕ → Pairing
+pairFrom x = pick (eqb x 0) Nowhere (Of (x / 0x100) (x % 0x100))
+
+-- the pairs of a page's characters
+unfoldable pub pairPage : ℕ → List ℕ
+unfolding pairOf
+pairPage = pageOf (λ c. pairNumber (pairOf c))

@@ -1,9 +1,10 @@
 // The squares of the documents: a mark and its follower, and the character of both.
+mod pages;
 mod table;
 
 use sorts::Found;
 ghost use mathlib.Core.Path.{_≡_};
-ghost use Rattle.squares.specs.Squares.{rowOf, pairAt};
+ghost use Rattle.squares.specs.Squares.{rowOf, pairPage, pairFrom};
 ghost use Rattle.squares.specs.Promises.{ColumnOfPromise, SquareTablePromise, SquareInPromise, PairedPromise, FindPairPromise};
 
 // The mark and the follower of a character.
@@ -68,30 +69,40 @@ pub fn paired(mark: u8, follower: u8) -> Found
     Found::Char(x)
 }
 
-// The mark and the follower of a square, counted row by row.
-fn pair_at(i: usize) -> Pairing
-    ensures { λ r. ⌜ r ≡ pairAt i ⌝ }
+// The pairs of the 32 characters from 32 times a page's number on, each as one number: 0x100 times its mark, and its follower; 0 where
+// there is none. The pages are small, as a look-up in a constant copies the whole of it.
+fn pair_page(page: u32) -> [u16; 32]
+    ensures { λ r. ⌜ r ≡ pairPage page ⌝ }
 {
-    if 689 <= i {
-        return Pairing::Nowhere;
+    match page {
+        0x02 => pages::FROM_0040,
+        0x03 => pages::FROM_0060,
+        0x05 => pages::FROM_00A0,
+        0x06 => pages::FROM_00C0,
+        0x07 => pages::FROM_00E0,
+        0x08 => pages::FROM_0100,
+        0x09 => pages::FROM_0120,
+        0x0A => pages::FROM_0140,
+        0x0B => pages::FROM_0160,
+        0x16 => pages::FROM_02C0,
+        _ => [0; 32],
     }
-    Pairing::Of(table::MARKS[i / 53], table::FOLLOWERS[i % 53])
 }
 
-// The pair of a character, looked for square by square.
+// A pair from its number.
+fn pair_from(number: u16) -> Pairing
+    ensures { λ r. ⌜ r ≡ pairFrom number ⌝ }
+{
+    if number == 0 {
+        return Pairing::Nowhere;
+    }
+    Pairing::Of((number / 0x100) as u8, (number % 0x100) as u8)
+}
+
+// The pair of a character, looked up in its page.
 pub fn find_pair(c: u32) -> Pairing
     ensures { λ r. ⌜ FindPairPromise c r ⌝ }
 {
-    if c == 0 {
-        return Pairing::Nowhere;
-    }
-    let table = table::SQUARES; // copied once for the search
-    let mut i: usize = 0;
-    while i < 689 {
-        if square_in(&table, i / 53, i % 53) == c {
-            return pair_at(i);
-        }
-        i += 1;
-    }
-    Pairing::Nowhere
+    let page = pair_page(c / 32);
+    pair_from(page[(c % 32) as usize])
 }

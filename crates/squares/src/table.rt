@@ -729,23 +729,3 @@ pub const SQUARES: [[u16; 53]; 13] = [
         0x02C7,
     ],
 ];
-
-// The marks, one a row.
-pub const MARKS: [u8; 13] = [
-    0xC1,
-    0xC2,
-    0xC3,
-    0xC4,
-    0xC5,
-    0xC6,
-    0xC7,
-    0xC8,
-    0xCA,
-    0xCB,
-    0xCD,
-    0xCE,
-    0xCF,
-];
-
-// The followers, one a column.
-pub const FOLLOWERS: [u8; 53] = *b"ABCDEFGHIJKLMNOPQRSTUVWXYZabcdefghijklmnopqrstuvwxyz ";

@@ -13,24 +13,21 @@ use Rattle.run.specs.Grammar.{Run, RunOf, done, more, Stopped}
 use Rattle.run.specs.declared.Answer.{Answer}
 use Rattle.run.specs.Answers.{given, same, afterReading}
 use Rattle.run.proofs.Outcomes as outcomes
-use Rattle.run.proofs.Rooms.{numbered, first-refused, first-accepted}
 use Rattle.run.proofs.Spellers.{spelt-not, why}
 use Rattle.sorts.specs.declared.Form.{Form}
 use Rattle.sorts.specs.declared.FormFound.the-variants.{Is}
 use Rattle.sorts.specs.Forms.{formOf}
 use Rattle.element_words.specs.declared.Element.{Element}
-use Rattle.element_words.specs.Words.{wordsOf}
 use Rattle.element_reading.specs.Grammar.{Spells}
 use Rattle.element_reading.specs.ElementHead.{headIn}
 use Rattle.element_reading.proofs.Reader.{reads, begins-head}
 use Rattle.element_spelling.specs.ElementOctets.{CanonicalElement, Held, spellElement}
 use Rattle.element_spelling.proofs.Writer.{canonical-given, canonical-some, read-held}
 use Rattle.text_loops.specs.Fronts.{readIn}
-use Rattle.text_reading.specs.ReadAnswers.{readAnswer}
 use Rattle.text_reading.specs.ReadingNumbers.{limit}
 use Rattle.text_reading.proofs.Edges.{a-form, within}
 use Rattle.text_reading.specs.LawWords.{Meets}
-use Rattle.text_reading.proofs.ReadTexts.{accepted-exactly, read-meets, measure-is}
+use Rattle.text_reading.proofs.ReadTexts.{accepted-exactly, read-meets}
 use Rattle.text.specs.Outcomes.{Respells, respellHead, respellIn, convertIn}
 use Rattle.text.specs.WriteAnswers.{convertAnswer, convertText}
 use Rattle.text.specs.WritingNumbers.{FirstNotHeld, ConvertingFault}
@@ -179,21 +176,3 @@ module _ (source target : ℕ) (f g : Form) (is-source : formOf source ≡ Is f)
     a-form _ _ _ _ _ is-source (a-form _ _ _ _ _ is-target (e .0 ∙ within text _ _ inside)),
     a-form _ _ _ _ _ is-source (a-form _ _ _ _ _ is-target (e .1 ∙ within text _ _ inside)),
   )
-
-  module _ (m : Answer) (measured : m ≡ readAnswer source text (length text)) where
-    -- the reading is refused, and so is the conversion
-    pub not-read : (m .number ≡ 0 → ⊥) → ConvertPromise source target text out m out
-    unfolding convertIn
-    not-read h =
-        converted m out
-        (first-refused wordsOf same (length text) out m (readIn f text) (respellIn f g text)
-        (measured ∙ measure-is source f is-source text inside) h)
-
-    -- the reading is accepted, and the conversion is the respelling
-    pub is-read : m .number ≡ 0 → (r : Answer) (out′ : List ℕ) → WholeAnswer same (length text) out (respellIn f g text) r out′
-        → ConvertPromise source target text out r out′
-    unfolding convertIn
-    is-read h r out′ e =
-        let q = measured ∙ measure-is source f is-source text inside in
-        converted r out′
-        (first-accepted wordsOf same (length text) out m (readIn f text) (respellIn f g text) r out′ (numbered (reads f) text) q h e)

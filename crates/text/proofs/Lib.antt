@@ -1,5 +1,4 @@
 mod Respelling
-mod Places
 mod Converting
 pub mod OneAnswer
 pub mod SixteenReadings

@@ -11,6 +11,9 @@ returns c = sym (simp (lt-ltb _ 0x8000 (c .if1 .taken)))
 cast-square-in : tie.Need-cast-square-in
 cast-square-in c = search needs
 
+sub-square-in : tie.Need-sub-square-in
+sub-square-in c = search needs
+
 column-of-requires : tie.Need-column-of-requires
 column-of-requires c κs = search needs
 
@@ -22,4 +25,4 @@ returns-2 c = rw (le-ltb _ 0x8000 (c .before .before .if1 .left), sym (c .before
 
 pub paired-in-spec : {M : Type 1} → statement M
 paired-in-spec =
-    tie.close (tie.spec returns cast-square-in column-of-requires square-in-requires returns-2)
+    tie.close (tie.spec returns cast-square-in sub-square-in column-of-requires square-in-requires returns-2)

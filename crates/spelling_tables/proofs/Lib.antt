@@ -1,0 +1,3 @@
+mod Slots
+pub mod LentSpellings
+pub mod OneAnswer

@@ -1,0 +1,2 @@
+pub mod PackedSpellings
+pub mod Promises
