@@ -1,6 +1,7 @@
 /* Does one job on one text so many times: the counts of two runs, with one round and with none, differ by what the job costs.
      drive JOB TEXT OCTETS ROUNDS
-   JOB: read-F, write-F, convert-F-G; list-F-N, which writes the first N words alone; feed-F-N, a page in pieces of N octets;
+   JOB: read-F, write-F, convert-F-G; list-F-N, which writes the first N words alone; feed-F-N, a page in pieces of N octets; compare-F,
+   the text beside the same octets; respelt-F, the text beside its canonical spelling;
    iconv-F:FROM:TO, on the octets of form F; iconv-words-F:NAME, which writes as NAME what iconv read of these octets from NAME.
    TEXT: ascii, nine-to-one, pairs, supplementary, sequences. */
 #include <iconv.h>
@@ -129,6 +130,16 @@ static void feed(int form, size_t size, size_t piece)
     } while (at < size);
 }
 
+/* So many rounds of the text beside another that means the same. */
+static void compare(int form, size_t size, size_t other_size, int rounds)
+{
+    while (rounds-- > 0) {
+        const struct oak_comparison c = oak_compare(form, text, size, out, other_size);
+        if (c.number != 0 || c.same != 1)
+            fail("refused, or not the same");
+    }
+}
+
 /* So many rounds of iconv over a whole input; how many octets it put out. */
 static size_t recode(const char *from, const char *to, void *input, size_t size, void *output, size_t room, int rounds)
 {
@@ -180,7 +191,14 @@ int main(int argc, char **argv)
     } else if (strncmp(job, "convert", 7) == 0)
         for (int i = 0; i < rounds; i++)
             expect(oak_convert(form, digit[2] - '0', text, size, out, sizeof out));
-    else if (strncmp(job, "iconv-words", 11) == 0) {
+    else if (strncmp(job, "compare", 7) == 0) {
+        memcpy(out, text, size);
+        compare(form, size, size, rounds);
+    } else if (strncmp(job, "respelt", 7) == 0) {
+        struct oak_answer a = oak_convert(form, form, text, size, out, sizeof out);
+        expect(a);
+        compare(form, size, a.count, rounds);
+    } else if (strncmp(job, "iconv-words", 11) == 0) {
         const char *name = digit + 2;
         size_t n = recode(name, "WCHAR_T", text, size, words, sizeof words, 1);
         recode("WCHAR_T", name, words, n, out, sizeof out, rounds);

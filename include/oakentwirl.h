@@ -1,5 +1,5 @@
 /*
- * Oakentwirl: teletex text and the TLX case, read, written and converted. For C11 and C++11, on x86-64 Linux.
+ * Oakentwirl: teletex text and the TLX case, read, written, converted and compared. For C11 and C++11, on x86-64 Linux.
  *
  * Text has one of three forms. It means a list of 32-bit words, one or more an element; OAK_IS_UNDERLINED and the macros beside it
  * take a word apart. No function guesses: input that is not of the form is refused with a number, and the places that the number
@@ -58,13 +58,16 @@ enum {
  *
  * `element` is the number of elements before the refused one for 1 to 8 and 10, and 0 for 9 and from 11 on. "First" is the place of the
  * refused element's first octet, "deciding" that of the octet that decided. In a refused page of a case both are counted from
- * the page's start, and so they are in a page that comes in pieces. Where place and count are not named, they are 0.
+ * the page's start, and so they are in a page that comes in pieces; of oak_compare, in the text that `text` says. Where place and count
+ * are not named, they are 0.
  */
 enum {
     /* All is well. element: elements (0 of oak_case_write); place: input length; count: entries written. Next: use those.
        oak_fresh: zeros. Next: feed the first piece.
        oak_feed: elements, octets taken and words since fresh. Next: use the words handed out, and feed the next piece, unless the page
-       ended with this one. */
+       ended with this one.
+       oak_compare: the texts are compared, whether they mean the same or not. element: where they differ, or how many they have; place,
+       count: 0. Next: look at `same`. */
     OAK_ACCEPTED = 0,
     /* An octet begins nothing in the form, or codes nothing after SS2. place: first; count: deciding.
        Next: name it, or try another form. */
@@ -96,7 +99,8 @@ enum {
     OAK_NO_FORM = 11,
     /* More than OAK_MOST_ENTRIES entries of input; not asked of a case. Next: ask for it in parts, each of whole elements.
        oak_feed: so many octets since fresh, with this piece's, which is not read; an element that waited is given up. Next: make it
-       fresh, for the next part; with the carry from before this call a smaller piece, or the end, may still be fed. */
+       fresh, for the next part; with the carry from before this call a smaller piece, or the end, may still be fed.
+       oak_compare: in the text that `text` says. Next: compare in parts, each with as many elements of the one as of the other. */
     OAK_TOO_LONG = 12,
     /* Fewer than 8 octets, or they do not begin with 54 4C 58. Next: it is no TLX case. */
     OAK_NO_CASE = 13,
@@ -134,6 +138,33 @@ struct oak_fed {
     struct oak_carry carry;
     struct oak_answer answer;
     size_t handed;
+};
+
+/*
+ * What oak_compare says of two texts: eleven numbers.
+ *
+ * Refused: number to count are what oak_read gives of the refused text, with room enough, and text is 1 or 2, which of the two it was, or
+ * 0 where it is the form (OAK_NO_FORM). same, the two places and otherwise are 0.
+ *
+ * Compared: number, place, count and text are 0. Two elements are the same where oak_read gives the same words of both.
+ *   - same is 1: both texts mean the same. element is the number of elements that each has, and first_place and second_place are the
+ *     texts' lengths. otherwise is the number of elements spelled otherwise: those whose octets in the one text are not their octets in
+ *     the other. Where it is 0, the texts are the same octets.
+ *   - same is 0: they do not. element is the number of elements that stand before the first that differs, or that one text alone has;
+ *     first_place and second_place are where that element begins in each, and of a text that has ended, its length. otherwise is 0.
+ *
+ * tail_text, 1 or 2, and tail_place say where the part begins that is handed back; it goes to the end of that text.
+ *   - They differ before either ends: the part is the first text's, from the differing element on.
+ *   - The second ends first (second_place is its length): what the first has more. tail_text is 1.
+ *   - The first ends first (first_place is its length): what the second has more. tail_text is 2, and in no other case.
+ *   - Both mean the same, or one is refused: nothing, at the end of the first.
+ */
+struct oak_comparison {
+    size_t number, element, place, count;
+    size_t text;
+    size_t same;
+    size_t first_place, second_place, otherwise;
+    size_t tail_text, tail_place;
 };
 
 /*
@@ -186,6 +217,13 @@ struct oak_answer oak_write(uint32_t form, const uint32_t *words, size_t words_l
 
 /* Converts a text from one form to another, or, where both are the same, to its canonical spelling. Refused with 11, 12, 1 to 8, 10, 9. */
 struct oak_answer oak_convert(uint32_t source, uint32_t target, const uint8_t *text, size_t text_len, uint8_t *out, size_t out_len);
+
+/*
+ * Says what changed between two texts of one form: the element at which what they mean first differs, or how many elements are spelled
+ * otherwise. Nothing is written, and the texts may overlap or be one buffer. Refused with 11, 12 of the first, 12 of the second, 1 to 8 of
+ * the first, 1 to 8 of the second.
+ */
+struct oak_comparison oak_compare(uint32_t form, const uint8_t *first, size_t first_len, const uint8_t *second, size_t second_len);
 
 /* Reads the pages of a TLX case into words, one page after another. Refused with 13, 14, 11, 15, 1 to 8 of the first such page, 9. */
 struct oak_case_answer oak_case_read(const uint8_t *tlx, size_t tlx_len, uint32_t *words, size_t words_len);

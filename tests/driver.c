@@ -20,13 +20,13 @@
 #define STEP ((size_t)65536)
 #define ROOM (66 * STEP)
 
-enum ask { READ = 1, WRITE, CONVERT, CASE_READ, CASE_WRITE, LOOK_TOO_FAR, PUT_TOO_FAR, FRESH, CARRIED, EACH };
+enum ask { READ = 1, WRITE, CONVERT, CASE_READ, CASE_WRITE, LOOK_TOO_FAR, PUT_TOO_FAR, FRESH, CARRIED, EACH, COMPARE, OVERLAP };
 enum side { MIDDLE, START, END };
 
 struct question {
     uint32_t ask, form, target;
     uint32_t first;  /* octets or words of the text, or page lengths, or calls of a page that comes in pieces, or code points from 0 on */
-    uint32_t second; /* octets of the pages that a case is written from */
+    uint32_t second; /* octets of the pages that a case is written from, or of the second text that is compared */
     uint32_t room;   /* entries of the buffer that is written */
 };
 
@@ -177,6 +177,28 @@ static void feed_all(const struct question *q, enum side side, uint8_t *ins, uin
     }
 }
 
+/* So many octets of a buffer's end, where they are. */
+static struct buffer end_of(struct buffer b, size_t octets)
+{
+    if (octets > b.octets)
+        die("an end is too long");
+    return (struct buffer){b.start == NULL ? NULL : (uint8_t *)b.start + (b.octets - octets), octets};
+}
+
+/* Two texts, the second in a buffer of its own, or the end of the first. */
+static void compare(const struct question *q, enum side side, uint8_t *ins, uint8_t *mores)
+{
+    struct buffer first = lay(ins, side, q->first, 1);
+    take(first);
+    struct buffer second = q->ask == OVERLAP ? end_of(first, q->second) : lay(mores, side, q->second, 1);
+    if (q->ask == COMPARE)
+        take(second);
+    struct oak_comparison c = oak_compare(q->form, first.start, q->first, second.start, q->second);
+    give((struct buffer){&c, sizeof c});
+    give(first);
+    give(second);
+}
+
 /* Octets that no character's spelling has, so that each one that was written shows. */
 static void fill_unspelt(struct buffer b)
 {
@@ -251,6 +273,10 @@ int main(int count, char **arguments)
         }
         if (q.ask == EACH) {
             each(&q, side, ins, outs);
+            continue;
+        }
+        if (q.ask == COMPARE || q.ask == OVERLAP) {
+            compare(&q, side, ins, mores);
             continue;
         }
         size_t in_width = q.ask == WRITE || q.ask == CASE_WRITE ? sizeof(uint32_t) : 1;

@@ -1,13 +1,16 @@
-"""The examples: programs that convert a file from one form to another, one that reads a page as it comes, and those of README.md.
+"""The examples: programs that convert a file from one form to another, one that reads a page as it comes, one that says what changed
+between two files, and those of README.md.
 
 `check` runs one program on each text beside the model of the documents, and compares its exit status, its output file and its message:
 that of a refusal names the number, the octet in hex, its place and its element. `check_serial` does so with pages on standard input, and
-compares the words that are printed. `check_readme` runs the lines of a section of README.md as they are written there, and compares what
-they write with the comments at their end. `check_own` runs a program of tests that Rust made. Standard library only.
+compares the words that are printed; `check_compare` with two files, and compares the line that says what changed. `check_readme` runs the
+lines of a section of README.md as they are written there, and compares what they write with the comments at their end. `check_own` runs a
+program of tests that Rust made. Standard library only.
 """
 from __future__ import annotations
 
 import pathlib
+import random
 import re
 import subprocess
 import sys
@@ -136,6 +139,92 @@ def check_serial(program: Sequence[str], folder: pathlib.Path) -> tuple[int, int
             failed += 1
             print(f"  a page of form {form}, {page[:40].hex(' ')}: {ending}, and not {wanted}")
     print(f"the example of a page as it comes: {passed} of {passed + failed} pages read or refused as they should be")
+    return passed, failed
+
+
+class Comparing(NamedTuple):
+    form: int
+    first: bytes
+    second: bytes
+
+
+SHOWN = 16  # octets of what a file has more
+DRAWN = 40  # pairs of elements of each form
+SEED = 4
+
+# One element of each form, spelled in two lengths.
+TWO_SPELLINGS = {1: (b"^", b"\xC3 "), 2: (b"^", b"\x19C "), 3: (b"\x9Bm", b"\x9B00m")}
+
+
+def comparisons() -> Iterator[Comparing]:
+    """The model's own; every character of each form beside its canonical spelling, and with more behind either; elements of each form
+    behind one that is spelled otherwise; what every form refuses, in each text and in both; no form, and texts over the limit."""
+    chance = random.Random(SEED)
+    yield from (Comparing(form, bytes.fromhex(first), bytes.fromhex(second)) for form, first, second, *_ in model.COMPARISONS)
+    for form in model.FORMS:
+        for text in map(bytes, texts.whole_texts(form)):
+            respelt = bytes(model.convert_text(form, form, text)[1])
+            yield Comparing(form, text, respelt)
+            yield from (Comparing(form, text + b"A" * SHOWN, respelt), Comparing(form, text, respelt + text))
+        for _ in range(DRAWN):
+            yield Comparing(form, *(front + bytes(texts.some_element(form, chance)) + b"B" for front in TWO_SPELLINGS[form]))
+        for octets in map(bytes, texts.refused_octets(form)):
+            yield from (Comparing(form, b"Ab" + octets, b"Ac"), Comparing(form, b"Ab", b"Ac" + octets))
+            yield Comparing(form, octets, b"A" + octets)
+    yield from (Comparing(form, b"A", b"B") for form in (0, 4, 9))
+    over = b"A" * (model.MOST_ENTRIES + 1)
+    yield from (Comparing(1, over, b"\x1B"), Comparing(1, b"\x1B", over))
+
+
+def differing(form: int, place: int, text: bytes, name: str) -> str:
+    """How the element of a text that differs is named."""
+    _, _, after = model.read_element(form, text, place)
+    return f"{text[place:after].hex(' ').upper()} at place {place} of {name}"
+
+
+def change(asked: Comparing, said: model.Comparison, names: Sequence[str]) -> str:
+    """The line that says what changed between two accepted texts."""
+    form, first, second = asked
+    element = said.answer.element
+    if said.same:
+        return f"the same: {element} elements, {said.otherwise} of them spelled otherwise"
+    if said.first_place < len(first) and said.second_place < len(second):
+        one, other = differing(form, said.first_place, first, names[0]), differing(form, said.second_place, second, names[1])
+        return f"element {element} differs: {one}, {other}"
+    longer, shorter = names if said.tail_text == 1 else names[::-1]
+    tail = model.part_of(said, first, second)
+    shown = tail[:SHOWN].hex(" ").upper() + (" .." if len(tail) > SHOWN else "")
+    return f"{longer} goes on where {shorter} ends, with element {element} at place {said.tail_place}: {shown}"
+
+
+def expected_comparison(asked: Comparing, names: Sequence[str]) -> Ending:
+    said = model.compared(*asked)
+    if said.answer.number == 0:
+        return Ending(0 if said.same else 1, f"{change(asked, said, names)}\n".encode(), "")
+    if said.text == 0:
+        return Ending(2, b"", refusal_message("compare", said.answer, b""))
+    return Ending(2, b"", refusal_message(f"compare: {names[said.text - 1]}", said.answer, asked[said.text]))
+
+
+def run_comparison(program: Sequence[str], asked: Comparing, names: Sequence[str]) -> Ending:
+    for name, text in zip(names, asked[1:]):
+        pathlib.Path(name).write_bytes(text)
+    ended = subprocess.run([*program, str(asked.form), *names], capture_output=True, check=False)
+    return Ending(ended.returncode, ended.stdout, ended.stderr.decode())
+
+
+def check_compare(program: Sequence[str], folder: pathlib.Path) -> tuple[int, int]:
+    names = [str(folder / "first"), str(folder / "second")]
+    passed = failed = 0
+    for asked in comparisons():
+        ending, wanted = run_comparison(program, asked, names), expected_comparison(asked, names)
+        if is_as(ending, wanted):
+            passed += 1
+        else:
+            failed += 1
+            both = " and ".join(text[:40].hex(" ") for text in asked[1:])
+            print(f"  two files of form {asked.form}, {both}: {ending}, and not {wanted}")
+    print(f"the example of two files compared: {passed} of {passed + failed} changes said or refused as they should be")
     return passed, failed
 
 

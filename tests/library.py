@@ -4,14 +4,16 @@
 
 `compare` asks every question with the buffers laid in three ways, and says how many answers are the model's: all numbers, and every
 octet of each lent buffer after the call, the ones that are only read too. Questions are all texts of up to two octets, read and
-converted; the vectors of make_text_vectors.py, make_serial_vectors.py and make_tlx_vectors.py; random texts, words and cases, whole and
-damaged; random pages up to the limit in random pieces, each beside its reading as a whole; carries that nobody made; and the longest texts.
+converted; the vectors of make_text_vectors.py, make_serial_vectors.py, make_tlx_vectors.py and make_compare_vectors.py; random texts, words
+and cases, whole and damaged; random pages up to the limit in random pieces, each beside its reading as a whole; carries that nobody made;
+two texts compared, all of one octet, and random ones beside their respellings, changed and damaged; and the longest texts.
 `points` asks of every code point up to 11FFFF, laid in the same three ways, how each form writes it, and how it reads and converts that.
 
 A question is six 32-bit numbers (what is asked, form, target, entries of the first buffer, octets of the second, room) and the two
 buffers; an answer is five 64-bit numbers and all three buffers. A page in pieces has its number of calls as the first buffer's entries,
 and then the fields of a carry if it is not made fresh. For each call follow three numbers (octets of the piece, whether the page ends,
-room) and the piece; its answer is the carry, the four numbers, how many words were handed out, and both buffers. The question of code
+room) and the piece; its answer is the carry, the four numbers, how many words were handed out, and both buffers. Two texts that are
+compared are the two buffers, or the second is the end of the first; the answer is eleven numbers and both texts. The question of code
 points has their number as the first buffer's entries, and no buffer; its answer is a record of POINTS for each run of them that are
 answered alike. Standard library only.
 """
@@ -30,12 +32,13 @@ from typing import Iterable, Iterator, NamedTuple, Optional, Sequence, Union
 
 sys.dont_write_bytecode = True
 import examples
+import make_compare_vectors as compares
 import make_serial_vectors as serials
 import make_text_vectors as texts
 import make_tlx_vectors as cases
 import model
 
-READ, WRITE, CONVERT, CASE_READ, CASE_WRITE, LOOK_TOO_FAR, PUT_TOO_FAR, FRESH, CARRIED, EACH = range(1, 11)
+READ, WRITE, CONVERT, CASE_READ, CASE_WRITE, LOOK_TOO_FAR, PUT_TOO_FAR, FRESH, CARRIED, EACH, COMPARE, OVERLAP = range(1, 13)
 OCTET, WORD = 1, 4
 SIDES = ("middle", "start", "end")
 SEED = 61
@@ -45,6 +48,10 @@ RANDOM_PAGES = 100  # of each form, in pieces, before damage
 LONG_PAGES = 2  # and so many of any length up to the limit
 MOST_CALLS = 1_500
 RANDOM_CARRIES = 10_000
+TWO_OCTETS = 20_000  # texts of each form that are compared
+RANDOM_PAIRS = 1_000  # texts of each form, before they are changed
+LONG_PAIRS = 15  # and so many of up to some thousand octets
+OVERLAPS = 1_000  # of each form, in one buffer
 REFUSED_ROOM = 3
 
 # What the driver fills a buffer with: it comes again after 256 octets.
@@ -138,9 +145,27 @@ def feeding(start: Union[int, model.Carry], calls: Sequence[serials.Call], outco
     return Asked(b"".join(question), b"".join(answer))
 
 
+def two_texts(ask: int, form: int, first: bytes, second: bytes, said: model.Comparison) -> Asked:
+    """Two texts that are compared; the second is lent by itself, or it is the end of the first."""
+    lent = b"" if ask == OVERLAP else second
+    question = struct.pack("<6I", ask, form, 0, len(first), len(second), 0) + first + lent
+    return Asked(question, struct.pack("<11Q", *model.numbers_of(said)) + first + second)
+
+
+def comparing(form: int, first: bytes, second: bytes) -> Asked:
+    return two_texts(COMPARE, form, first, second, model.compared(form, first, second))
+
+
+def overlapping(form: int, first: bytes, size: int) -> Asked:
+    second = first[len(first) - size :]
+    return two_texts(OVERLAP, form, first, second, model.compared(form, first, second))
+
+
 def vectors() -> Iterator[Asked]:
     for found in serials.files().values():
         yield from (feeding(vector.start, vector.calls, serials.outcomes(vector)) for vector in found)
+    for found in compares.files().values():
+        yield from (comparing(*pair) for pair in found)
     for form in model.FORMS:
         yield from (reading(q.forms[0], bytes(q.entries), q.room) for q in texts.readings(form))
         yield from (writing(q.forms[0], q.entries, q.room) for q in texts.writings(form))
@@ -278,6 +303,49 @@ def carries() -> Iterator[Asked]:
         yield feeding(carry, calls, serials.outcomes(serials.Vector(carry, tuple(calls))))
 
 
+def short_pairs(chance: random.Random) -> Iterator[tuple[bytes, bytes]]:
+    """All texts of one octet beside each other; and some of two beside a part of them, or with one octet another."""
+    yield from itertools.product([bytes([octet]) for octet in range(256)], repeat=2)
+    for _ in range(TWO_OCTETS):
+        text = chance.randbytes(2)
+        yield text, chance.choice([b"", text[:1], text[1:], text, text[:1] + chance.randbytes(1), chance.randbytes(1) + text[1:]])
+
+
+def random_pairs(form: int, chance: random.Random) -> Iterator[tuple[bytes, bytes]]:
+    """A text beside its respelling, beside one with an element changed, dropped or put in, and beside what damage makes of it."""
+    sizes = [chance.randrange(1, 16) for _ in range(RANDOM_PAIRS)] + [chance.randrange(16, 1_000) for _ in range(LONG_PAIRS)]
+    for size in sizes:
+        elements = compares.some_elements(form, size, chance)
+        text = compares.spelt(form, elements, chance)
+        changes = compares.changes(form, elements, chance.randrange(size), chance)
+        yield from ((text, compares.spelt(form, others, chance)) for others in [elements, *changes])
+        yield from ((text, bytes(hurt)) for hurt in texts.damaged_texts([tuple(text)], chance))
+
+
+def pairs() -> Iterator[Asked]:
+    for form in model.FORMS:
+        chance = random.Random(SEED)
+        yield from (comparing(form, *pair) for pair in short_pairs(chance))
+        yield from (comparing(form, *pair) for pair in compares.both_ways(random_pairs(form, chance)))
+        for text in map(bytes, texts.short_texts(form, OVERLAPS, chance)):
+            yield overlapping(form, text * 2, chance.choice([len(text), 2 * len(text), chance.randrange(2 * len(text))]))
+
+
+def longest_pairs() -> Iterator[Asked]:
+    """Texts of the most octets that mean the same, differ in the last element, end before the other or are refused there; and longer."""
+    half = model.MOST_ENTRIES // 2
+    text, changed, shorter = b"\xC2e" * half, b"\xC2e" * (half - 1) + b"\xC2a", b"\xC2e" * (half - 1)
+    single, double = b"`" * half, b"\xC1 " * half
+    pieces = {each: model.read_pieces(1, each)[0] for each in (text, changed, shorter, single, double)}
+    for first, second in [(text, text), (text, changed), (text, shorter), (shorter, text), (single, double), (double, single)]:
+        said = model.compared_pieces(first, pieces[first], second, pieces[second])
+        yield two_texts(COMPARE, 1, first, second, said)
+    yield comparing(1, b"B", shorter + b"\xC2\x1B")
+    over = b"\x1B" * (model.MOST_ENTRIES + 1)
+    for form, first, second in [(1, over, text), (2, text, over), (3, over, over), (3, b"\x1B", over), (1, over, b"\x1B"), (0, over, over)]:
+        yield comparing(form, first, second)
+
+
 def past_the_limit() -> Asked:
     """A page of the most octets, which an empty piece does not pass; then one octet more."""
     page = b"A" * model.MOST_ENTRIES
@@ -295,6 +363,7 @@ def longest() -> Iterator[Asked]:
         yield converting(2, 3, b"\n" * size, size)
         yield writing(3, [0x41] * size, size)
     yield past_the_limit()
+    yield from longest_pairs()
 
 
 def written(asked: Iterable[Asked], folder: pathlib.Path) -> tuple[list[int], list[int]]:
@@ -330,7 +399,7 @@ def driven(command: Sequence[str], folder: pathlib.Path) -> int:
 
 def compare(driver: Sequence[str], folder: pathlib.Path) -> tuple[int, int]:
     """How many answers of the library are the model's, and how many are not."""
-    ends = written(itertools.chain(short(), vectors(), drawn(), pages(), carries(), longest()), folder)
+    ends = written(itertools.chain(short(), vectors(), drawn(), pages(), carries(), pairs(), longest()), folder)
     expected = (folder / "expected").read_bytes()
     count = len(ends[0]) - 1
     passed = failed = 0
@@ -459,6 +528,8 @@ def main(folder: pathlib.Path, emulator: Sequence[str]) -> int:
     results += [examples.check("C", [*emulator, str(folder / "convert-c")], folder), examples.check_readme("Use it from C")]
     results += [examples.check_serial([*emulator, str(folder / "serial-c")], folder), examples.check_readme("Read a page as it comes")]
     results += [examples.check_readme("Read a Latvian card")]
+    results += [examples.check_compare([*emulator, str(folder / "compare-c")], folder)]
+    results += [examples.check_readme("What changed between two transfers")]
     if (folder / "convert-rust").exists():
         results += [examples.check("Rust", [*emulator, str(folder / "convert-rust")], folder)]
         results += [examples.check_own([*emulator, str(folder / "document-rust")]), examples.check_readme("Use it from Rust")]

@@ -622,7 +622,7 @@ def is_written(path: pathlib.Path, text: str) -> bool:
     """Whether the file has just that text; says so where not."""
     same = path.exists() and path.read_bytes() == text.encode("ascii")
     if not same:
-        print(f"{path.relative_to(ROOT)} is not as tests/make_text_vectors.py writes it", file=sys.stderr)
+        print(f"{path.relative_to(ROOT)} is not as tests/{pathlib.Path(sys.argv[0]).name} writes it", file=sys.stderr)
     return same
 
 

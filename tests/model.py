@@ -953,6 +953,80 @@ def cut_page(form: int, octets: bytes, ends: Sequence[int]) -> Iterator[Fed]:
         before = whole
 
 
+# What changed between two texts: document 02, No. 4.
+
+
+class Comparison(NamedTuple):
+    """The four numbers; which text was refused, or 0; what is said of both; and from where on a part of which text is handed back."""
+
+    answer: Answer
+    text: int = 0
+    same: int = 0
+    first_place: Place = 0
+    second_place: Place = 0
+    otherwise: int = 0
+    tail_text: int = 1
+    tail_place: Place = 0
+
+
+def numbers_of(comparison: Comparison) -> tuple[int, ...]:
+    """All eleven, one after another."""
+    return (*comparison.answer, *comparison[1:])
+
+
+def part_of(comparison: Comparison, first: Octets, second: Octets) -> bytes:
+    """What is handed back: the octets of one text, from a place to its end."""
+    return bytes((first, second)[comparison.tail_text - 1][comparison.tail_place :])
+
+
+def first_refused(refusals: Sequence[Optional[Answer]], end: Place) -> Optional[Comparison]:
+    """The first text's refusal, or else the second's, "with which text it was"; "on a refusal, it is the first's empty end"."""
+    return next((Comparison(refusal, text, tail_place=end) for text, refusal in enumerate(refusals, 1) if refusal), None)
+
+
+def pieces_octets(pieces: Sequence[Piece], octets: Octets) -> list[bytes]:
+    """The octets of each element of an accepted text."""
+    places = [*(piece.place for piece in pieces), len(octets)]
+    return [bytes(octets[start:end]) for start, end in zip(places, places[1:])]
+
+
+def difference(first: Sequence[Piece], second: Sequence[Piece]) -> Optional[int]:
+    """The element at which the meanings first differ, or None where they are the same. One of the two may have ended there."""
+    meanings = itertools.zip_longest(*([piece.words for piece in pieces] for pieces in (first, second)))
+    return next((element for element, (one, other) in enumerate(meanings) if one != other), None)
+
+
+def compared_pieces(first: Octets, ours: Sequence[Piece], second: Octets, theirs: Sequence[Piece]) -> Comparison:
+    """What two accepted texts answer, each with its elements.
+
+    "say the element at which their meanings first differ, and the octet place in each; or say that they mean the same, with the number of
+    elements spelled otherwise." These are those whose octets in the two texts differ. The place in a text that has ended is its length.
+    "Where one text ends first, hand back the surplus tail of whichever text goes on. If both mean the same .. it is the first's empty end;
+    if they differ before either ends, the first text's part from the differing element."
+    """
+    element = difference(ours, theirs)
+    if element is None:
+        spellings = zip(pieces_octets(ours, first), pieces_octets(theirs, second))
+        otherwise = sum(one != other for one, other in spellings)
+        return Comparison(Answer(0, len(ours)), 0, 1, len(first), len(second), otherwise, 1, len(first))
+    place = ours[element].place if element < len(ours) else len(first)
+    other_place = theirs[element].place if element < len(theirs) else len(second)
+    tail = (1, place) if element < len(ours) else (2, other_place)
+    return Comparison(Answer(0, element), 0, 0, place, other_place, 0, *tail)
+
+
+def compared(form: int, first: Octets, second: Octets) -> Comparison:
+    """The answer: "11 and 12 as before, then the first text's reading refusal, then the second's, with which text it was." """
+    if form not in FORMS:
+        return Comparison(Answer(11), tail_place=len(first))
+    over = first_refused([refused_before([form], text) for text in (first, second)], len(first))
+    if over:
+        return over
+    ours, refusal = read_pieces(form, first)
+    theirs, other_refusal = read_pieces(form, second)
+    return first_refused([refusal, other_refusal], len(first)) or compared_pieces(first, ours, second, theirs)
+
+
 # "Sixteen readings to prove": form, octets, and the words or the refusal's number, element, place and count.
 READINGS: list[tuple[int, str, Union[list[int], Answer]]] = [
     (1, "", []),
@@ -1041,6 +1115,40 @@ def check_texts() -> None:
     assert convert_text(3, 1, [0x41, 0xCC, 0x41], 0) == (Answer(10, 1, 1, 0), [])
 
 
+# What the request says, by hand: form, both texts, the eleven numbers, and the part.
+COMPARISONS: list[tuple[int, str, str, tuple[int, ...], str]] = [
+    (1, "", "", (0, 0, 0, 0, 0, 1, 0, 0, 0, 1, 0), ""),
+    (1, "41 60 42", "41 C1 20 42", (0, 3, 0, 0, 0, 1, 3, 4, 1, 1, 3), ""),
+    (3, "23 9B 30 3B 6D 41", "A6 9B 3B 6D 41", (0, 3, 0, 0, 0, 1, 6, 5, 2, 1, 6), ""),
+    # differing midway, behind spellings that do
+    (1, "60 C2 65 41", "C1 20 65 42", (0, 1, 0, 0, 0, 0, 1, 2, 0, 1, 1), "C2 65 41"),
+    (3, "41 CC 20 42", "41 20 42", (0, 1, 0, 0, 0, 0, 1, 1, 0, 1, 1), "CC 20 42"),
+    (3, "9B 34 6D", "9B 34 3B 6D", (0, 0, 0, 0, 0, 0, 0, 0, 0, 1, 0), "9B 34 6D"),
+    # one that ends first
+    (2, "41 19 42 65", "41", (0, 1, 0, 0, 0, 0, 1, 1, 0, 1, 1), "19 42 65"),
+    (2, "60", "19 41 20 19 42 65", (0, 1, 0, 0, 0, 0, 1, 3, 0, 2, 3), "19 42 65"),
+    (3, "", "9B 6D", (0, 0, 0, 0, 0, 0, 0, 0, 0, 2, 0), "9B 6D"),
+    # refused, though they differ before; the first text's refusal before the second's
+    (1, "41 42 C2", "43 1B", (4, 2, 2, 3, 1, 0, 0, 0, 0, 1, 3), ""),
+    (1, "41 42", "43 1B", (2, 1, 1, 1, 2, 0, 0, 0, 0, 1, 2), ""),
+    (3, "41 9B 31 30 30 30 6D", "", (7, 1, 1, 5, 1, 0, 0, 0, 0, 1, 7), ""),
+    (4, "1B", "C2", (11, 0, 0, 0, 0, 0, 0, 0, 0, 1, 1), ""),
+]
+
+
+def check_compared() -> None:
+    """The readings above, and what goes before reading."""
+    for form, first, second, numbers, part in COMPARISONS:
+        texts = bytes.fromhex(first), bytes.fromhex(second)
+        comparison = compared(form, *texts)
+        assert numbers_of(comparison) == numbers, (form, first, second, comparison)
+        assert part_of(comparison, *texts) == bytes.fromhex(part), (form, first, second, comparison)
+    over = bytes(MOST_ENTRIES + 1)
+    assert compared(0, over, over) == Comparison(Answer(11), tail_place=len(over))
+    assert compared(1, over, over) == compared(1, over, b"\x1B") == Comparison(Answer(12), 1, tail_place=len(over))
+    assert compared(1, b"\x1B", over) == Comparison(Answer(12), 2, tail_place=1)
+
+
 # "Whole example: form 1, two pages".
 EXAMPLE = "54 4C 58 00 01 01 00 02 00 01 00 02 41 C2 65"
 
@@ -1073,4 +1181,5 @@ check_cases()
 if __name__ == "__main__":
     check_texts()
     check_serial()
-    print("the sixteen readings hold, and so do the texts, the whole example of a case and pages in pieces")
+    check_compared()
+    print("the sixteen readings hold, and so do the texts, the whole example of a case, pages in pieces and two texts compared")

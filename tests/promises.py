@@ -2,8 +2,9 @@
 """Each public function of the codec promises exactly what its name in specs/Promises.antt says, and the name allows one answer.
 
 Of each `pub fn` of the crates from `run` to `oakentwirl`, by its signature alone: it has no `requires`; its one `ensures` is its promise's
-name, with every argument at entry, the result, and every lent buffer at exit; the crate proves `Once` or `OnceBoth` of that name. A function
-for C promises what the function that it calls promises. What the names say is proved by the check, not here.
+name, with every argument at entry, the result, and every lent buffer at exit; the crate proves `Once` or `OnceBoth` of that name. Where the
+result is a part of what is lent, its promise is of what it holds and of where it lies. A function for C promises what the function that it
+calls promises. What the names say is proved by the check, not here.
 """
 
 import re
@@ -13,13 +14,15 @@ from pathlib import Path
 ROOT = Path(__file__).resolve().parent.parent
 LAST = "oakentwirl"
 
-START = re.compile(r'^( *)pub (?:extern "C" )?fn (\w+)\(')
+START = re.compile(r"^( *)pub (?:extern \"C\" )?fn (\w+)(?:<'\w+>)?\(")
+LENT = re.compile(r"&(?:'\w+ )?")
+LENT_TO_WRITE = re.compile(LENT.pattern + r"mut\b")
 # a call, of a function by its path or of a method
 CALL = re.compile(r"\s*(?:[\w:]+::|\w+\.)(\w+)\([^()]*\)\s*")
 
 
 def functions(text):
-    """Name, parameters, clauses and body of each public function: the formatter puts each of these on lines of its own."""
+    """Name, parameters, result, clauses and body of each public function: the formatter puts these on lines of their own."""
     lines = iter(text.splitlines())
     for line in lines:
         start = START.match(line)
@@ -37,8 +40,8 @@ def functions(text):
             if line == indent + "}":
                 break
             body.append(line)
-        signature = " ".join(head)[start.end():]
-        yield start.group(2), signature[:signature.rindex(")")], " ".join(" ".join(clauses).split()), " ".join(body)
+        given, _, result = " ".join(head)[start.end():].rpartition(")")
+        yield start.group(2), given, result.removeprefix(" -> "), " ".join(" ".join(clauses).split()), " ".join(body)
 
 
 def codec_crates():
@@ -60,24 +63,25 @@ def parameters(signature):
             yield name.strip(), kind.strip()
 
 
-def expected(promise, signature, body):
+def expected(promise, signature, result, body):
     """The whole `ensures` that a function of this signature has. For C a truth is a number: the callee is lent whether it is not 0."""
     given, after = [], []
+    lent, answer = ("({} .entry)", "(now r) (ptr r)") if LENT.match(result) else ("(now ({} .entry))", "r")
     for name, kind in parameters(signature):
         truth = f"(not (eqb {name} 0))" if re.search(rf"\b{name} != 0[,)]", body) else name
-        given.append(f"(now ({name} .entry))" if kind.startswith("&") else truth)
-        if kind.startswith("&mut"):
+        given.append(lent.format(name) if LENT.match(kind) else truth)
+        if LENT_TO_WRITE.match(kind):
             after.append(f"(now ({name} .exit))")
-    return f"ensures {{ λ r. ⌜ {' '.join([promise, *given, 'r', *after])} ⌝ }}"
+    return f"ensures {{ λ r. ⌜ {' '.join([promise, *given, answer, *after])} ⌝ }}"
 
 
 def faults(crate):
     proofs = "".join(p.read_text() for p in sorted((ROOT / "crates" / crate / "proofs").glob("*.antt")))
     for source in sorted((ROOT / "crates" / crate / "src").glob("*.rt")):
-        for function, signature, clauses, body in functions(source.read_text()):
+        for function, signature, result, clauses, body in functions(source.read_text()):
             called = CALL.fullmatch(body) if crate == LAST else None
             promise = promise_of(called.group(1) if called else function)
-            ensures = expected(promise, signature, body if called else "")
+            ensures = expected(promise, signature, result, body if called else "")
             if clauses != ensures:
                 yield f"{crate}::{function}: {clauses or 'no ensures'}\n    and not {ensures}"
             elif crate != LAST and not re.search(rf"\bOnce(Both)? \(?{promise}\b", proofs):

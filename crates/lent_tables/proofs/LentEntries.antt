@@ -46,6 +46,22 @@ graphic-code f o h =
     let e = at-octet f o (omega (arith, past)) in
     graphic-of (sortIn f o) (omega arith) ∙ ap Graphic (sym e)
 
+-- a code from there on, below the one of neither: the octet is a mark
+mark-of : (f : Form) (o : ℕ) (s : Sort) → sortIn f o ≡ s → noCharacter ≤ codeOf s → codeOf s < neither → (m : ℕ) × (s ≡ Mark m)
+mark-of f o (Graphic c) q l h = absurd (omega (arith, graphic-small f o c q))
+mark-of f o (Mark m) q l h = (m, refl)
+mark-of f o Underline q l h = absurd (omega arith)
+mark-of f o Shift q l h = absurd (omega arith)
+mark-of f o Control q l h = absurd (omega arith)
+mark-of f o SequenceStart q l h = absurd (omega arith)
+mark-of f o (Refused k) q l h = absurd (omega arith)
+
+pub mark-code : (f : Form) (o : ℕ) → noCharacter ≤ codeIn (codeTable f) o → codeIn (codeTable f) o < neither → (m : ℕ) × (sortIn f o ≡ Mark m)
+mark-code f o l h =
+    let past : 256 ≤ o → ⊥ = λ k. let e = no-octet f o k in omega arith in
+    let e = at-octet f o (omega (arith, past)) in
+    mark-of f o (sortIn f o) refl (omega arith) (omega arith)
+
 -- ---- a pair
 
 -- a follower that has a column is an octet

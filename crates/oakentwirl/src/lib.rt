@@ -1,4 +1,5 @@
 // The library for C: each function under its plain name, as include/oakentwirl.h declares it, over the proved function that does the work.
+use compare::Comparison;
 use run::Answer;
 use serial::Carry;
 use serial::Fed;
@@ -7,6 +8,7 @@ ghost use mathlib.Core.Bool.{not};
 ghost use lib.Dec.{eqb};
 ghost use Rattle.text_reading.specs.Promises.{ReadPromise};
 ghost use Rattle.text.specs.Promises.{WritePromise, ConvertPromise};
+ghost use Rattle.compare.specs.Promises.{ComparedPromise};
 ghost use Rattle.serial.specs.Promises.{FreshPromise, FeedPromise};
 ghost use Rattle.tlx.specs.Promises.{ReadCasePromise};
 ghost use Rattle.case_writing.specs.Promises.{WriteCasePromise};
@@ -33,6 +35,14 @@ pub extern "C" fn oak_convert(source: u32, target: u32, text: &[u8], out: &mut [
     ensures { λ r. ⌜ ConvertPromise source target (now (text .entry)) (now (out .entry)) r (now (out .exit)) ⌝ }
 {
     text::convert(source, target, text, out)
+}
+
+// Says what changed between two texts of one form.
+#[no_mangle]
+pub extern "C" fn oak_compare(form: u32, first: &[u8], second: &[u8]) -> Comparison
+    ensures { λ r. ⌜ ComparedPromise form (now (first .entry)) (now (second .entry)) r ⌝ }
+{
+    compare::compared(form, first, second)
 }
 
 // A fresh carry of a form, for a page off the serial lead.

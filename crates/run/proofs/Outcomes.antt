@@ -33,12 +33,50 @@ pub run-length : {X A : Type 0} {S : List X → A → Type 0} {s : List X} {ps :
 run-length done = refl
 run-length (more sp r) = ap suc (run-length r)
 
+-- its pieces are the list
+pub same-pieces : {X A B : Type 0} {S : List X → A → Type 0} {T : List X → B → Type 0} {s t : List X} {ps qs : List (List X)} {es : List A}
+    {fs : List B} → Run S s ps es → Run T t qs fs → ps ≡ qs → s ≡ t
+same-pieces done done e = refl
+same-pieces done (more sq q) e = let z : _≡_ {A = ℕ} 0 1 = cc in absurd (omega arith)
+same-pieces (more sp r) done e = let z : _≡_ {A = ℕ} 0 1 = cc in absurd (omega arith)
+same-pieces (more {p} {ps = ps} sp r) (more {p = q} {ps = qs} sq r′) e =
+    let h : p ≡ q = cc in
+    let t : ps ≡ qs = cc in
+    ap₂ _++_ h (same-pieces r r′ t)
+
 -- two runs joined are a run of both lists of elements
 pub run-append : {X A : Type 0} {S : List X → A → Type 0} {s t : List X} {ps qs : List (List X)} {es fs : List A} → Run S s ps es
     → Run S t qs fs → RunOf S (s ++ t) (es ++ fs)
 run-append {qs = qs} done q = (qs, q)
 run-append {X = X} {S = S} {t = t} {fs = fs} (more {p} {s} {ps} {e} {es} sp r) q =
     let i = run-append r q in subst (λ (l : List X). RunOf S l (e ∷ es ++ fs)) (sym (append-assoc p s t)) (p ∷ i .0, more sp (i .1))
+
+-- a run of two lists of elements joined is one of the first, and behind it one of the second
+pub record Cut {X A : Type 0} (S : List X → A → Type 0) (s : List X) (es fs : List A) : Type 0 where
+  pub front : List X
+  pub rest : List X
+  pub whole : s ≡ front ++ rest
+  pub run : RunOf S front es
+  pub run-rest : RunOf S rest fs
+
+pub run-cut : {X A : Type 0} {S : List X → A → Type 0} {s : List X} {ps : List (List X)} (es fs : List A) → Run S s ps (es ++ fs)
+    → Cut S s es fs
+run-cut {s = s} {ps = ps} [] fs r = record { front = []; rest = s; whole = refl; run = ([], done); run-rest = (ps, r) }
+run-cut {X = X} {S = S} (e ∷ es) fs (more {p} {s} sp r) =
+    let i = run-cut es fs r in
+    record {
+      front = p ++ i .front;
+      rest = i .rest;
+      whole = ap (λ (u : List X). p ++ u) (i .whole) ∙ sym (append-assoc p (i .front) (i .rest));
+      run = (p ∷ i .run .0, more sp (i .run .1));
+      run-rest = i .run-rest;
+    }
+
+-- a run by one grammar is a run by another that spells as much
+pub run-by : {X A : Type 0} {S T : List X → A → Type 0} → ((p : List X) (e : A) → S p e → T p e)
+    → {s : List X} {ps : List (List X)} {es : List A} → Run S s ps es → Run T s ps es
+run-by spells done = done
+run-by spells (more {p} {e = e} sp r) = more (spells p e sp) (run-by spells r)
 
 -- the same stop, by another rule for what is left
 pub stopped-by : {X A : Type 0} {S : List X → A → Type 0} {H K : List X → ℕ → Type 0} {s : List X} {n p d : ℕ} (h : Stopped S H s n p d)

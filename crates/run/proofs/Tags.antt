@@ -2,13 +2,13 @@
 -- Assumes nothing.
 use Prim.Native.Nat.{ℕ, zero, suc, _-_}
 use mathlib.Core.Path.{_≡_, refl, sym, ap, ap₂, _∙_, subst}
-use mathlib.Core.List.{List, [], _∷_, _++_}
+use mathlib.Core.List.{List, [], _∷_, _++_, map}
 use native.Mathlib.Omega.{arith}
 use lib.ListN.{length, take}
 use lib.Seq.{take-append-seam}
 use Rattle.run.specs.Head.{Head, element, refused, none, Outcome, accepted, refusal, join, after, from, outcome}
-use Rattle.run.specs.Grammar.{Begins, Reads}
-use Rattle.run.specs.Tagged.{Tagged, tagHead, tagged, untag}
+use Rattle.run.specs.Grammar.{Run, done, more, Begins, Reads}
+use Rattle.run.specs.Tagged.{Tagged, tagHead, tagged, untagged, untag}
 
 -- ---- without the tags
 
@@ -33,6 +33,22 @@ module _ {X A B : Type 0} (tag : List X → A → B) (head : List X → Head A) 
   pub untag-outcome : (s : List X) → untag (outcome (tagged tag head) s) ≡ outcome head s
   unfolding outcome
   untag-outcome s = untag-from s 0
+
+-- ---- runs
+
+module _ {X A B : Type 0} (tag : List X → A → B) {S : List X → A → Type 0} where
+  -- a run with the tags is a run without them,
+  pub run-untagged : {s : List X} {ps : List (List X)} {xs : List (A × B)} → Run (Tagged tag S) s ps xs → Run S s ps (map untagged xs)
+  run-untagged done = done
+  run-untagged (more sp r) = more (sp .0) (run-untagged r)
+
+  -- and each run is one with them
+  pub run-tagged : {s : List X} {ps : List (List X)} {es : List A} → Run S s ps es
+      → (xs : List (A × B)) × Run (Tagged tag S) s ps xs × (map untagged xs ≡ es)
+  run-tagged done = ([], done, refl)
+  run-tagged (more {p} {e = e} sp r) =
+      let i = run-tagged r in
+      ((e, tag p e) ∷ i .0, more (sp, refl) (i .1), ap (λ (l : List A). e ∷ l) (i .2))
 
 -- ---- the promises
 

@@ -18,7 +18,7 @@ use Rattle.run.specs.Grammar.{Run, RunOf, done, more, Begins}
 use Rattle.run.specs.declared.Answer.{Answer}
 use Rattle.run.specs.Answers.{answer, bare, shortRoom, countOf, given, answerOf, writtenOf, over, same}
 use Rattle.run.proofs.Outcomes as outcomes
-use Rattle.run.proofs.Outcomes.{run-append, run-length}
+use Rattle.run.proofs.Outcomes.{run-append, run-by, run-length}
 use Rattle.run.proofs.Answers.{given-append}
 use Rattle.run.specs.OneAnswer.{Once, OnceBoth}
 use Rattle.sorts.specs.declared.Form.{Form}
@@ -368,8 +368,7 @@ module _ (f : Form) where
   one-canonical (more c r) (more k q) = ap₂ _++_ (one-spelling f c k) (one-canonical r q)
 
   canonical-run : {s : List ℕ} {ps : List (List ℕ)} {es : List Element} → Run (CanonicalElement f) s ps es → Run (Spells f) s ps es
-  canonical-run done = done
-  canonical-run (more c r) = more (canonical-spells f c) (canonical-run r)
+  canonical-run = run-by (λ p e. canonical-spells f)
 
   canonical-held : {s : List ℕ} {ps : List (List ℕ)} {es : List Element} → Run (CanonicalElement f) s ps es → AllHeld f es
   canonical-held done = none

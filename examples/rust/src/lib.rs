@@ -1,7 +1,8 @@
-//! Teletex text and the TLX case, read, written and converted by the proved library Oakentwirl.
+//! Teletex text and the TLX case, read, written, converted and compared by the proved library Oakentwirl.
 //!
 //! Text has one of three [`Form`]s and means a list of 32-bit words, which `include/oakentwirl.h` takes apart. Nothing is guessed: input
-//! that is not of the form is an [`Error`], which names the octet and its place. A page that comes in pieces is a [`Serial`].
+//! that is not of the form is an [`Error`], which names the octet and its place. A page that comes in pieces is a [`Serial`]; what changed
+//! between two texts is a [`Compared`].
 //!
 //! ```no_run
 //! use oakentwirl::Form;
@@ -10,10 +11,12 @@
 //! assert_eq!(oakentwirl::convert(Form::Eight, Form::Seven, b"\xC2e"), Ok(b"\x19Be".to_vec()));
 //! ```
 
+mod compare;
 mod error;
 mod library;
 mod serial;
 
+pub use compare::{compare, CompareError, Compared, Which};
 pub use error::{Error, Refusal};
 use library::CaseAnswer;
 pub use serial::{Serial, Totals};

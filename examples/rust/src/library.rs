@@ -40,6 +40,19 @@ pub struct Fed {
     pub handed: usize,
 }
 
+/// What is said of two texts: the four numbers, which text is refused, the verdict, and where the part begins that is handed back.
+#[repr(C)]
+pub struct Comparison {
+    pub answer: Answer,
+    pub text: usize,
+    pub same: usize,
+    pub first_place: usize,
+    pub second_place: usize,
+    pub otherwise: usize,
+    pub tail_text: usize,
+    pub tail_place: usize,
+}
+
 impl From<Answer> for CaseAnswer {
     fn from(answer: Answer) -> Self {
         let Answer {
@@ -96,6 +109,13 @@ extern "C" {
         out: *mut u8,
         out_len: usize,
     ) -> Answer;
+    pub fn oak_compare(
+        form: u32,
+        first: *const u8,
+        first_len: usize,
+        second: *const u8,
+        second_len: usize,
+    ) -> Comparison;
     pub fn oak_case_read(
         tlx: *const u8,
         tlx_len: usize,

@@ -1,7 +1,8 @@
 //! The documents' own examples, through the safe functions.
 
 use oakentwirl::{
-    convert, read, read_case, write, write_case, Error, Form, Refusal, Serial, Totals,
+    compare, convert, read, read_case, write, write_case, CompareError, Compared, Error, Form,
+    Refusal, Serial, Totals, Which,
 };
 
 /// "form 1, two pages"
@@ -159,4 +160,134 @@ fn a_page_goes_on_from_before_the_piece_that_passed_the_limit() {
     assert_eq!(smaller.end(), Ok(totals));
     let cut = error(Refusal::CutShort, 1_048_574, 1_048_574, 1_048_575, 0);
     assert_eq!(ended.end(), Err(cut));
+}
+
+/// Document 02, No. 4: the meanings are compared, and not the octets.
+#[test]
+fn texts_that_mean_the_same_say_how_many_elements_are_spelled_otherwise() {
+    let same = |elements, otherwise| {
+        Ok(Compared::Same {
+            elements,
+            otherwise,
+        })
+    };
+    let text = b"#1 caf\xC2e \xCC#\x9B0;m";
+    assert_eq!(compare(Form::Basic, text, &text.clone()), same(10, 0));
+    assert_eq!(compare(Form::Basic, text, text), same(10, 0));
+    let respelt = convert(Form::Basic, Form::Basic, text).unwrap();
+    assert_eq!(respelt, b"\xA61 caf\xC2e \xCC\xA6\x9B;m");
+    assert_eq!(compare(Form::Basic, text, &respelt), same(10, 3));
+    assert_eq!(compare(Form::Basic, &respelt, text), same(10, 3));
+    assert_eq!(compare(Form::Eight, b"2^8", b"2\xC3 8"), same(3, 1));
+    for form in [Form::Eight, Form::Seven, Form::Basic] {
+        assert_eq!(compare(form, b"", b""), same(0, 0));
+    }
+}
+
+#[test]
+fn texts_that_differ_say_where_in_each() {
+    let (first, second) = (b"2^8 caf\xC2e, two", b"2\xC3 8 cafe, two");
+    let differ = Compared::Differ {
+        element: 7,
+        first_place: 7,
+        second_place: 8,
+        tail: b"\xC2e, two",
+    };
+    assert_eq!(compare(Form::Eight, first, second), Ok(differ));
+    let exchanged = Compared::Differ {
+        element: 7,
+        first_place: 8,
+        second_place: 7,
+        tail: b"e, two",
+    };
+    assert_eq!(compare(Form::Eight, second, first), Ok(exchanged));
+    let underlined = Compared::Differ {
+        element: 1,
+        first_place: 1,
+        second_place: 1,
+        tail: b" B",
+    };
+    assert_eq!(compare(Form::Basic, b"A B", b"A\xCC B"), Ok(underlined));
+}
+
+#[test]
+fn a_text_that_goes_on_lends_what_it_has_more() {
+    let (short, long) = (b"2^8", b"2\xC3 8\xC2e");
+    let second = Compared::SecondGoesOn {
+        element: 3,
+        place: 4,
+        tail: b"\xC2e",
+    };
+    assert_eq!(compare(Form::Eight, short, long), Ok(second));
+    let first = Compared::FirstGoesOn {
+        element: 3,
+        place: 4,
+        tail: b"\xC2e",
+    };
+    assert_eq!(compare(Form::Eight, long, short), Ok(first));
+    let all = Compared::SecondGoesOn {
+        element: 0,
+        place: 0,
+        tail: &long[..],
+    };
+    assert_eq!(compare(Form::Eight, b"", long), Ok(all));
+}
+
+#[test]
+fn the_tail_is_a_part_of_the_text_that_it_is_of() {
+    let (first, second, longer) = (
+        b"A\xC2eB".to_vec(),
+        b"A\xC2aB".to_vec(),
+        b"A\xC2eBC".to_vec(),
+    );
+    let tail = |one, other| match compare(Form::Eight, one, other) {
+        Ok(Compared::Differ { tail, .. })
+        | Ok(Compared::FirstGoesOn { tail, .. })
+        | Ok(Compared::SecondGoesOn { tail, .. }) => tail,
+        other => panic!("there is no tail: {other:?}"),
+    };
+    assert!(std::ptr::eq(tail(&first, &second), &first[1..]));
+    assert!(std::ptr::eq(tail(&second, &first), &second[1..]));
+    assert!(std::ptr::eq(tail(&first, &longer), &longer[4..]));
+    assert!(std::ptr::eq(tail(&longer, &first), &longer[4..]));
+}
+
+#[test]
+fn a_refused_comparison_names_the_text() {
+    let refused = |which, error| Err(CompareError { which, error });
+    let (good, follower, high) = (b"A", b"A\xC2b", b"AB\x80");
+    let (three, one) = (
+        error(Refusal::NotAFollower, 1, 1, 2, 0),
+        error(Refusal::BeginsNothing, 2, 2, 2, 0),
+    );
+    let eight = |first, second| compare(Form::Eight, first, second);
+    assert_eq!(eight(follower, good), refused(Which::First, three));
+    assert_eq!(eight(good, follower), refused(Which::Second, three));
+    assert_eq!(eight(high, follower), refused(Which::First, one));
+    assert_eq!(eight(follower, high), refused(Which::First, three));
+    let said = eight(good, follower).unwrap_err().to_string();
+    assert_eq!(
+        said,
+        "the second text: refused with 3: what stands at place 2, in element 1, may not follow the mark or the underline before it"
+    );
+    let cut = error(Refusal::CutShort, 1, 1, 3, 0);
+    let seven = compare(Form::Seven, b"A\x19B", b"B");
+    assert_eq!(seven, refused(Which::First, cut));
+}
+
+/// A text over the limit is refused before either is read.
+#[test]
+fn a_text_that_is_too_long_is_not_compared() {
+    let (most, over) = (vec![b'A'; 1_048_576], vec![b'A'; 1_048_577]);
+    let long = error(Refusal::TooLong, 0, 0, 0, 0);
+    let refused = |which| Err(CompareError { which, error: long });
+    let eight = |first, second| compare(Form::Eight, first, second);
+    assert_eq!(eight(&over, b"\xC2b"), refused(Which::First));
+    assert_eq!(eight(b"\xC2b", &over), refused(Which::Second));
+    assert_eq!(eight(&over, &over), refused(Which::First));
+    let same = Compared::Same {
+        elements: 1_048_576,
+        otherwise: 0,
+    };
+    assert_eq!(eight(&most, &most.clone()), Ok(same));
 }

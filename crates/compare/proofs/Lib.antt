@@ -1,0 +1,12 @@
+pub mod SameTests
+pub mod Sharing
+pub mod Spellings
+pub mod Walks
+pub mod Sizes
+pub mod Answered
+pub mod Meetings
+pub mod Exactly
+pub mod Theorems
+pub mod OneAnswer
+pub mod Exchanging
+pub mod Joining

@@ -1,0 +1,358 @@
+-- The theorems of record of comparing: request No. 4's sentences, in the words of WhatChanged and of the grammar. They speak of `comparison`,
+-- which the contracts cite (`ComparedPromise`, `ComparePromise`); that it is document 02's rows is proofs/Exactly, compared-exactly.
+-- Assumes nothing.
+use Prim.Native.Nat.{ℕ, _+_, _≤_, _<_}
+use mathlib.Core.Path.{_≡_, refl, sym, ap, ap₂, _∙_, subst}
+use mathlib.Core.Logic.{_↔_, inl, inr}
+use mathlib.Core.List.{List, [], _∷_, _++_}
+use native.Mathlib.Omega.{arith}
+use lib.ListN.{length, take, drop}
+use lib.Seq.{take-append-seam, drop-append-seam, drop-length}
+use Rattle.run.specs.Grammar.{Run, done, more, RunOf}
+use Rattle.run.specs.declared.Answer.{Answer}
+use Rattle.run.specs.Answers.{answer, bare, countOf, given, roomyAnswer}
+use Rattle.run.proofs.Outcomes as outcomes
+use Rattle.run.proofs.Outcomes.{run-by}
+use Rattle.sorts.specs.declared.Form.{Form}
+use Rattle.sorts.specs.declared.FormFound.the-variants.{Is}
+use Rattle.sorts.specs.Forms.{formOf}
+use Rattle.element_words.specs.declared.Element.{Element}
+use Rattle.element_words.specs.Words.{wordsOf, Proper, Means, means}
+use Rattle.element_words.proofs.Words.{words-read}
+use Rattle.element_reading.specs.Grammar.{Spells}
+use Rattle.element_reading.proofs.Reader.{reads}
+use Rattle.element_spelling.specs.ElementOctets.{CanonicalElement, Held}
+use Rattle.element_spelling.proofs.Writer.{canonical-spells, canonical-proper, read-held}
+use Rattle.element_reading.proofs.Places.{reading-number}
+use Rattle.text_reading.specs.ReadingNumbers.{limit, ReadingFault}
+use Rattle.text_reading.specs.ReadAnswers.{readAnswer}
+use Rattle.text_reading.proofs.Edges.{a-form, over}
+use Rattle.text_reading.proofs.ReadTexts.{accepted-exactly, refused-exactly, measure-is}
+use Rattle.compare.specs.declared.Comparison.{Comparison}
+use Rattle.compare.specs.WhatChanged.{Otherwise, GoesOn, Differ, FirstDiffer, BothRun, Readable, CompareRow}
+use Rattle.compare.specs.WhatChanged.{sameOf}
+use Rattle.compare.specs.Comparing.{shared, comparedIn, comparison, partOf}
+use Rattle.compare.specs.TheoremWords.{SaysWhere, HandsBack, AsRead}
+use Rattle.compare.proofs.Sharing.{elementsOf, octetsOf, elements-append, apart-differ, all-shared, none-otherwise, all-alike}
+use Rattle.compare.proofs.Sharing.{differ}
+use Rattle.compare.proofs.Spellings.{Beside, beside, its-run}
+use Rattle.compare.proofs.Meetings.{Met, meet, reads-whole, reads-whole′, both-ended, Verdict, verdict, row-differ, row-second-ends, row-first-ends}
+use Rattle.compare.proofs.Exactly.{row-same, met-runs, same-by, readable-is, its-row}
+
+-- the words of a run's elements are a run of them
+words-run : {f : Form} {s : List ℕ} {ps : List (List ℕ)} {es : List Element} → Run (Spells f) s ps es → RunOf Means (given wordsOf es) es
+unfolding given
+words-run done = ([], done)
+words-run {f} (more {e = e} sp r) =
+    let i = words-run r in
+    (wordsOf e ∷ i .0, more (means (proper (read-held f sp))) (i .1))
+  where
+    proper : Held f e → Proper e
+    proper (Held.held c) = canonical-proper f c
+
+-- what an equation of comparisons says of the part
+hands : {c d : Comparison} (first second : List ℕ) {part : List ℕ} {text place : ℕ} → c ≡ d → d .«tail_text» ≡ text
+    → d .«tail_place» ≡ place → partOf d first second ≡ part → HandsBack c first second text place part
+hands first second q t p e = (
+  ap (λ (x : Comparison). x .«tail_text») q ∙ t,
+  ap (λ (x : Comparison). x .«tail_place») q ∙ p,
+  ap (λ (x : Comparison). partOf x first second) q ∙ e,
+)
+
+-- ---- "Two texts of one form": a form, and both within the limit
+
+module _ (form : ℕ) (first second : List ℕ) {f : Form} (readable : Readable form first second f) where
+  abbrev C : Comparison
+  C = comparison form first second
+
+  by : {c : Comparison} → comparedIn f first second ≡ c → C ≡ c
+  by q = readable-is form first second readable ∙ q
+
+  -- ======== "or say that they mean the same, with the number of elements spelled otherwise"
+
+  module _ {ps qs : List (List ℕ)} {es : List Element} (r : Run (Spells f) first ps es) (q : Run (Spells f) second qs es) where
+    -- the pieces side by side
+    side : (k : ℕ) × Otherwise ps qs k
+    side =
+        let a = beside f r in
+        let b = beside f q in
+        let o = all-shared (a .spellings) (b .spellings) (a .elements ∙ sym (b .elements)) .spelled-otherwise in
+        let k = shared (a .spellings) (b .spellings) .otherwise in (
+          k,
+          subst (λ (x : List (List ℕ)). Otherwise x qs k) (a .octets)
+              (subst (λ (x : List (List ℕ)). Otherwise (octetsOf (a .spellings)) x k) (b .octets) o),
+        )
+
+    so-many : {k : ℕ} → Otherwise ps qs k → C ≡ sameOf (length es) (length first) (length second) k
+    so-many {k} o =
+        by
+        (row-same f first second
+        (record { elements = es; pieces = ps; pieces′ = qs; run = r; run′ = q; spelled-otherwise = o; number = refl }))
+
+    -- The number of elements spelled otherwise is that of the elements whose pieces, in the one way that each text is a run, differ.
+    pub otherwise-exactly : (k : ℕ) → (C .otherwise ≡ k) ↔ Otherwise ps qs k
+    otherwise-exactly k = (
+      λ e. subst (Otherwise ps qs) (sym (ap (λ (c : Comparison). c .otherwise) (so-many (side .1))) ∙ e) (side .1),
+      λ o. ap (λ (c : Comparison). c .otherwise) (so-many o),
+    )
+
+    -- It is 0 exactly where they are the same octets.
+    pub otherwise-none : (C .otherwise ≡ 0) ↔ (first ≡ second)
+    otherwise-none = (
+      λ e. outcomes.same-pieces r q (none-otherwise (otherwise-exactly 0 .0 e) refl),
+      λ e. otherwise-exactly 0 .1
+          (subst (λ (x : List (List ℕ)). Otherwise ps x 0)
+          (outcomes.one-run (reads f) r (subst (λ (l : List ℕ). Run (Spells f) l qs es) (sym e) q) .0) (all-alike ps)),
+    )
+
+    -- All numbers of two texts that mean the same.
+    pub mean-same : (C .same ≡ 1) × (C .answer ≡ answer 0 (length es) 0 0) × (C .«first_place» ≡ length first)
+        × (C .«second_place» ≡ length second)
+    mean-same =
+        let z = so-many (side .1) in (
+          ap (λ (c : Comparison). c .same) z,
+          ap (λ (c : Comparison). c .answer) z,
+          ap (λ (c : Comparison). c .«first_place») z,
+          ap (λ (c : Comparison). c .«second_place») z,
+        )
+
+  -- ======== "say the element at which their meanings first differ, and the octet place in each"
+
+  module _ {es fs : List Element} (r : RunOf (Spells f) first es) (q : RunOf (Spells f) second fs) where
+    one : Beside f first (r .0) es
+    one = beside f (r .1)
+
+    two : Beside f second (q .0) fs
+    two = beside f (q .1)
+
+    m : Met f first second
+    m = meet f first second (one .spellings) (two .spellings) (one .reads-so) (two .reads-so)
+
+    -- what each text means, by where they meet
+    meanings : (es ≡ elementsOf (m .before) ++ elementsOf (m .behind)) × (fs ≡ elementsOf (m .before) ++ elementsOf (m .behind′))
+    meanings = (
+      outcomes.one-run (reads f) (r .1) (its-run f first (m .before ++ m .behind) (reads-whole f first second m)) .1
+          ∙ elements-append (m .before) (m .behind),
+      outcomes.one-run (reads f) (q .1) (its-run f second (m .before′ ++ m .behind′) (reads-whole′ f first second m)) .1
+          ∙ elements-append (m .before′) (m .behind′)
+          ∙ ap (λ (l : List Element). l ++ elementsOf (m .behind′)) (sym (m .same-elements)),
+    )
+
+    -- their fronts mean the same
+    fronts : RunOf (Spells f) (m .front) (elementsOf (m .before)) × RunOf (Spells f) (m .front′) (elementsOf (m .before))
+    fronts = met-runs f first second m
+
+    same-meaning : C .same ≡ 1 → es ≡ fs
+    same-meaning e = go (verdict f first second m)
+      where
+        go : Verdict f first second m → es ≡ fs
+        go (Verdict.ended z w) =
+            let s = same-by f first second m z w in
+            outcomes.one-run (reads f) (r .1) (s .run) .1 ∙ sym (outcomes.one-run (reads f) (q .1) (s .run′) .1)
+        go (Verdict.goes text place k) =
+            let n : _≡_ {A = ℕ} 1 0 = sym e ∙ ap (λ (c : Comparison). c .same) (by k) in absurd (omega arith)
+
+    -- compared: no refusal
+    pub both-accepted : C .answer .number ≡ 0
+    both-accepted = go (verdict f first second m)
+      where
+        go : Verdict f first second m → C .answer .number ≡ 0
+        go (Verdict.ended z w) = ap (λ (c : Comparison). c .answer .number) (by (both-ended f first second m (ap length z) (ap length w)))
+        go (Verdict.goes text place k) = ap (λ (c : Comparison). c .answer .number) (by k)
+
+    -- They are said to mean the same exactly when they mean the same list of elements.
+    pub same-exactly : (C .same ≡ 1) ↔ (es ≡ fs)
+    same-exactly = (
+      same-meaning,
+      λ e. mean-same (r .1) (subst (λ (l : List Element). Run (Spells f) second (q .0) l) (sym e) (q .1)) .0,
+    )
+
+    -- Else the element number is the length of what their meanings share, and both texts before the two places mean that.
+    pub says-where : C .same ≡ 0 → SaysWhere f first second es fs C
+    says-where e = go (verdict f first second m)
+      where
+        go : Verdict f first second m → SaysWhere f first second es fs C
+        go (Verdict.ended z w) =
+            let n : _≡_ {A = ℕ} 0 1 =
+            sym e ∙ ap (λ (c : Comparison). c .same) (by (both-ended f first second m (ap length z) (ap length w))) in
+            absurd (omega arith)
+        go (Verdict.goes text place k) =
+            let place-is = ap (λ (c : Comparison). c .«first_place») (by k) in
+            let place-is′ = ap (λ (c : Comparison). c .«second_place») (by k) in
+            record {
+              shared = elementsOf (m .before);
+              share =
+                  record {
+                    rest = elementsOf (m .behind);
+                    rest′ = elementsOf (m .behind′);
+                    whole = meanings .0;
+                    whole′ = meanings .1;
+                    parted = apart-differ (m .apart);
+                  };
+              element-number = ap (λ (c : Comparison). c .answer .element) (by k);
+              before =
+                  subst (λ (l : List ℕ). RunOf (Spells f) l (elementsOf (m .before)))
+                  (sym (ap₂ take place-is (m .whole) ∙ take-append-seam (m .front) (m .rest))) (fronts .0);
+              before′ =
+                  subst (λ (l : List ℕ). RunOf (Spells f) l (elementsOf (m .before)))
+                  (sym (ap₂ take place-is′ (m .whole′) ∙ take-append-seam (m .front′) (m .rest′))) (fronts .1);
+            }
+
+    -- "A text means a list of 32-bit words": the same exactly when reading gives the same words.
+    pub same-words : (C .same ≡ 1) ↔ (given wordsOf es ≡ given wordsOf fs)
+    same-words = (
+      λ e. ap (given wordsOf) (same-meaning e),
+      λ w. same-exactly .1
+          (outcomes.one-run words-read (words-run (r .1) .1)
+          (subst (λ (l : List ℕ). Run Means l (words-run (q .1) .0) fs) (sym w) (words-run (q .1) .1)) .1),
+    )
+
+  -- ======== the part that is handed back
+
+  -- "if they differ before either ends, the first text's part from the differing element"
+  module _ (b : BothRun f first second) {n p q : ℕ} where
+    pub part-differ : (d : FirstDiffer f (Differ f) first second n p q) → HandsBack C first second 1 p (d .rest)
+    part-differ d =
+        hands first second (by (row-differ f first second b d)) refl refl
+        (ap₂ drop (d .first-place) (d .whole) ∙ drop-append-seam (d .front) (d .rest))
+
+    -- "Where one text ends first, hand back the surplus tail of whichever text goes on."
+    pub part-second-ends : (d : FirstDiffer f (λ rest rest′. GoesOn f rest × (rest′ ≡ [])) first second n p q)
+        → HandsBack C first second 1 p (d .rest)
+    part-second-ends d =
+        hands first second (by (row-second-ends f first second b d)) refl refl
+        (ap₂ drop (d .first-place) (d .whole) ∙ drop-append-seam (d .front) (d .rest))
+
+    pub part-first-ends : (d : FirstDiffer f (λ rest rest′. (rest ≡ []) × GoesOn f rest′) first second n p q)
+        → HandsBack C first second 2 q (d .rest′)
+    part-first-ends d =
+        hands first second (by (row-first-ends f first second b d)) refl refl
+        (ap₂ drop (d .second-place) (d .whole′) ∙ drop-append-seam (d .front′) (d .rest′))
+
+  -- ---- a text and its canonical spelling
+
+  -- A text and its canonical spelling mean the same.
+  pub canonical-same : {es : List Element} → RunOf (Spells f) first es → RunOf (CanonicalElement f) second es → C .same ≡ 1
+  canonical-same r c = mean-same (r .1) (run-by (λ p e k. canonical-spells f k) (c .1)) .0
+
+-- ======== "on a refusal, it is the first's empty end", and so it is where both mean the same
+
+module _ (form : ℕ) (first second : List ℕ) where
+  row-refused : {c : Comparison} → CompareRow form first second c → (c .answer .number ≡ 0 → ⊥)
+      → HandsBack c first second 1 (length first) []
+  row-refused (CompareRow.no-form n) z = (refl, refl, drop-length first)
+  row-refused (CompareRow.first-over q l) z = (refl, refl, drop-length first)
+  row-refused (CompareRow.second-over q l h) z = (refl, refl, drop-length first)
+  row-refused (CompareRow.first-refused r h) z = (refl, refl, drop-length first)
+  row-refused (CompareRow.second-refused r e h) z = (refl, refl, drop-length first)
+  row-refused (CompareRow.mean-same r m) z = absurd (z refl)
+  row-refused (CompareRow.differ r b d) z = absurd (z refl)
+  row-refused (CompareRow.second-ends r b d) z = absurd (z refl)
+  row-refused (CompareRow.first-ends r b d) z = absurd (z refl)
+
+  row-same-part : {c : Comparison} → CompareRow form first second c → c .same ≡ 1 → HandsBack c first second 1 (length first) []
+  row-same-part (CompareRow.no-form n) z = absurd (omega arith)
+  row-same-part (CompareRow.first-over q l) z = absurd (omega arith)
+  row-same-part (CompareRow.second-over q l h) z = absurd (omega arith)
+  row-same-part (CompareRow.first-refused r h) z = absurd (omega arith)
+  row-same-part (CompareRow.second-refused r e h) z = absurd (omega arith)
+  row-same-part (CompareRow.mean-same r m) z = (refl, refl, drop-length first)
+  row-same-part (CompareRow.differ r b d) z = absurd (omega arith)
+  row-same-part (CompareRow.second-ends r b d) z = absurd (omega arith)
+  row-same-part (CompareRow.first-ends r b d) z = absurd (omega arith)
+
+  pub part-refused : (comparison form first second .answer .number ≡ 0 → ⊥)
+      → HandsBack (comparison form first second) first second 1 (length first) []
+  part-refused = row-refused (its-row form first second)
+
+  pub part-same : comparison form first second .same ≡ 1 → HandsBack (comparison form first second) first second 1 (length first) []
+  part-same = row-same-part (its-row form first second)
+
+  -- ======== "Refusals: 11 and 12 as before, then the first text's reading refusal, then the second's, with which text it was."
+
+  -- reading a text with room enough
+  read-over : {f : Form} (text : List ℕ) → formOf form ≡ Is f → limit < length text → bare 12 ≡ readAnswer form text (length text)
+  unfolding readAnswer
+  read-over text q l = a-form _ _ _ _ _ q (over text _ _ l)
+
+  read-fault : {f : Form} (text : List ℕ) {r n p d : ℕ} → formOf form ≡ Is f → length text ≤ limit → ReadingFault f text r n p d
+      → answer r n p (countOf r d) ≡ readAnswer form text (length text)
+  read-fault {f} text {r} {n} {p} {d} q l h =
+      sym (measure-is form f q text l ∙ ap (roomyAnswer wordsOf (length text)) (refused-exactly f text r n p d .1 h))
+
+  read-run : {f : Form} (text : List ℕ) {es : List Element} → formOf form ≡ Is f → length text ≤ limit → RunOf (Spells f) text es
+      → readAnswer form text (length text) .number ≡ 0
+  read-run {f} text {es} q l r =
+      ap (λ (a : Answer). a .number)
+      (measure-is form f q text l ∙ ap (roomyAnswer wordsOf (length text)) (accepted-exactly f text es .1 r))
+
+  row-read : {c : Comparison} → CompareRow form first second c → (c .answer .number ≡ 0 → ⊥) → AsRead form first second c
+  row-read (CompareRow.no-form n) z =
+      record {
+        of-first = λ e. absurd (omega arith);
+        of-second = λ e. absurd (omega arith);
+        after-first = λ e. absurd (omega arith);
+        of-neither = λ e. n;
+        which = omega arith;
+      }
+  row-read (CompareRow.first-over q l) z =
+      record {
+        of-first = λ e. read-over first q l;
+        of-second = λ e. absurd (omega arith);
+        after-first = λ e. absurd (omega arith);
+        of-neither = λ e. absurd (omega arith);
+        which = omega arith;
+      }
+  row-read (CompareRow.second-over q l h) z =
+      record {
+        of-first = λ e. absurd (omega arith);
+        of-second = λ e. read-over second q h;
+        after-first = λ e. inr refl;
+        of-neither = λ e. absurd (omega arith);
+        which = omega arith;
+      }
+  row-read (CompareRow.first-refused r h) z =
+      record {
+        of-first = λ e. read-fault first (r .is-form) (r .first-within) h;
+        of-second = λ e. absurd (omega arith);
+        after-first = λ e. absurd (omega arith);
+        of-neither = λ e. absurd (omega arith);
+        which = omega arith;
+      }
+  row-read (CompareRow.second-refused r e h) z =
+      record {
+        of-first = λ w. absurd (omega arith);
+        of-second = λ w. read-fault second (r .is-form) (r .second-within) h;
+        after-first = λ w. inl (read-run first (r .is-form) (r .first-within) e);
+        of-neither = λ w. absurd (omega arith);
+        which = omega arith;
+      }
+  row-read (CompareRow.mean-same r m) z = absurd (z refl)
+  row-read (CompareRow.differ r b d) z = absurd (z refl)
+  row-read (CompareRow.second-ends r b d) z = absurd (z refl)
+  row-read (CompareRow.first-ends r b d) z = absurd (z refl)
+
+  -- A refusal has the numbers of `read`.
+  pub refused-as-read : (comparison form first second .answer .number ≡ 0 → ⊥) → AsRead form first second (comparison form first second)
+  refused-as-read = row-read (its-row form first second)
+
+  row-compared : {c : Comparison} → CompareRow form first second c → c .answer .number ≡ 0
+      → (f : Form) × Readable form first second f × BothRun f first second
+  row-compared (CompareRow.no-form n) z = absurd (omega arith)
+  row-compared (CompareRow.first-over q l) z = absurd (omega arith)
+  row-compared (CompareRow.second-over q l h) z = absurd (omega arith)
+  row-compared (CompareRow.first-refused {f} r h) z = absurd (omega (arith, reading-number f (h .here) .0))
+  row-compared (CompareRow.second-refused {f} r e h) z = absurd (omega (arith, reading-number f (h .here) .0))
+  row-compared (CompareRow.mean-same {f} r m) z = (
+    f,
+    r,
+    record { meaning = m .elements; meaning′ = m .elements; run = (m .pieces, m .run); run′ = (m .pieces′, m .run′) },
+  )
+  row-compared (CompareRow.differ {f} r b d) z = (f, r, b)
+  row-compared (CompareRow.second-ends {f} r b d) z = (f, r, b)
+  row-compared (CompareRow.first-ends {f} r b d) z = (f, r, b)
+
+  -- They are compared exactly where both are accepted.
+  pub compared-when : (comparison form first second .answer .number ≡ 0)
+      ↔ ((f : Form) × Readable form first second f × BothRun f first second)
+  compared-when = (row-compared (its-row form first second), λ x. both-accepted form first second (x .1) (x .2 .run) (x .2 .run′))
