@@ -100,7 +100,8 @@ enum {
     /* More than OAK_MOST_ENTRIES entries of input; not asked of a case. Next: ask for it in parts, each of whole elements.
        oak_feed: so many octets since fresh, with this piece's, which is not read; an element that waited is given up. Next: make it
        fresh, for the next part; with the carry from before this call a smaller piece, or the end, may still be fed.
-       oak_compare: in the text that `text` says. Next: compare in parts, each with as many elements of the one as of the other. */
+       oak_compare: in the text that `text` says. Next: compare in parts of whole elements, each but the last with as many elements of the
+       one text as of the other. */
     OAK_TOO_LONG = 12,
     /* Fewer than 8 octets, or they do not begin with 54 4C 58. Next: it is no TLX case. */
     OAK_NO_CASE = 13,

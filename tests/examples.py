@@ -148,7 +148,6 @@ class Comparing(NamedTuple):
     second: bytes
 
 
-SHOWN = 16  # octets of what a file has more
 DRAWN = 40  # pairs of elements of each form
 SEED = 4
 
@@ -165,7 +164,7 @@ def comparisons() -> Iterator[Comparing]:
         for text in map(bytes, texts.whole_texts(form)):
             respelt = bytes(model.convert_text(form, form, text)[1])
             yield Comparing(form, text, respelt)
-            yield from (Comparing(form, text + b"A" * SHOWN, respelt), Comparing(form, text, respelt + text))
+            yield from (Comparing(form, text + text + b"A", respelt), Comparing(form, text, respelt + text))
         for _ in range(DRAWN):
             yield Comparing(form, *(front + bytes(texts.some_element(form, chance)) + b"B" for front in TWO_SPELLINGS[form]))
         for octets in map(bytes, texts.refused_octets(form)):
@@ -192,9 +191,9 @@ def change(asked: Comparing, said: model.Comparison, names: Sequence[str]) -> st
         one, other = differing(form, said.first_place, first, names[0]), differing(form, said.second_place, second, names[1])
         return f"element {element} differs: {one}, {other}"
     longer, shorter = names if said.tail_text == 1 else names[::-1]
-    tail = model.part_of(said, first, second)
-    shown = tail[:SHOWN].hex(" ").upper() + (" .." if len(tail) > SHOWN else "")
-    return f"{longer} goes on where {shorter} ends, with element {element} at place {said.tail_place}: {shown}"
+    more = model.part_of(said, first, second)
+    shown = differing(form, said.tail_place, first if said.tail_text == 1 else second, longer)
+    return f"{longer} goes on where {shorter} ends, with element {element}: {shown}, the first of {len(more)} octets more"
 
 
 def expected_comparison(asked: Comparing, names: Sequence[str]) -> Ending:

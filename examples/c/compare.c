@@ -5,17 +5,15 @@
  *
  * FORM is 1 (T51String in eight bits), 2 (in seven bits) or 3 (basic T.61). One line says that both mean the same, and how many elements
  * are spelled otherwise; or at which element they differ, with its octets in hex and its place in each; or which file goes on where the
- * other ends. Elements and places are counted from 0. Exit status, as diff's: 0, they mean the same; 1, they differ; 2, a text is refused,
- * and the message names the file, the octet and its place, except for 11 and 12, which are about no octet; or anything else.
+ * other ends, and with which element. Elements and places are counted from 0. Exit status, as diff's: 0, they mean the same; 1, they
+ * differ; 2, a text is refused, and the message names the file, the octet and its place, except for 11 and 12, which are about no octet;
+ * or anything else.
  */
 #include <stdint.h>
 #include <stdio.h>
 #include <stdlib.h>
 
 #include "oakentwirl.h"
-
-/* Of what a file has more than the other, so many octets are shown. */
-#define SHOWN 16
 
 /* A text, and the file that it stands in. */
 struct text {
@@ -79,13 +77,12 @@ static void say_element(uint32_t form, struct text text, size_t place)
     printf(" at place %zu of %s", place, text.name);
 }
 
-/* What the one file has more than the other: its first octets, and dots where there are others. */
-static void say_tail(struct text longer, struct text shorter, size_t element, size_t place)
+/* What the one file has more than the other: its first element, and how many octets there are in all. */
+static void say_tail(uint32_t form, struct text longer, struct text shorter, size_t element, size_t place)
 {
-    size_t more = longer.length - place;
-    printf("%s goes on where %s ends, with element %zu at place %zu:", longer.name, shorter.name, element, place);
-    say_octets(longer.start + place, more < SHOWN ? more : SHOWN);
-    printf(more > SHOWN ? " ..\n" : "\n");
+    printf("%s goes on where %s ends, with element %zu:", longer.name, shorter.name, element);
+    say_element(form, longer, place);
+    printf(", the first of %zu octets more\n", longer.length - place);
 }
 
 /* What changed, in words. */
@@ -96,9 +93,9 @@ static int tell(uint32_t form, struct text first, struct text second, struct oak
         return 0;
     }
     if (c.tail_text == 2) {
-        say_tail(second, first, c.element, c.tail_place);
+        say_tail(form, second, first, c.element, c.tail_place);
     } else if (c.second_place == second.length) {
-        say_tail(first, second, c.element, c.tail_place);
+        say_tail(form, first, second, c.element, c.tail_place);
     } else {
         printf("element %zu differs:", c.element);
         say_element(form, first, c.first_place);

@@ -5,8 +5,9 @@ use mathlib.Core.Path.{_≡_, refl, sym, ap, ap₂, _∙_, subst}
 use mathlib.Core.Logic.{_↔_}
 use mathlib.Core.Bool.{Bool, true, false}
 use mathlib.Core.List.{List, [], _∷_, _++_, append-nil}
+use native.Mathlib.Omega.{arith}
 use lib.Dec.{leb}
-use lib.ListN.{length}
+use lib.ListN.{length, length-append}
 use borrow.Author.Tests.{leb-true, leb-false}
 use Rattle.run.specs.Choice.{pick}
 use Rattle.run.specs.Head.{Outcome, accepted, refusal}
@@ -23,12 +24,12 @@ use Rattle.element_reading.specs.Grammar.{Spells}
 use Rattle.text_reading.specs.ReadingNumbers.{limit, ReadingFault}
 use Rattle.text_reading.specs.ReadAnswers.{within-limit}
 use Rattle.compare.specs.declared.Comparison.{Comparison}
-use Rattle.compare.specs.WhatChanged.{Otherwise, MeanSame, FirstDiffer, BothRun, Readable, CompareRow}
+use Rattle.compare.specs.WhatChanged.{Otherwise, MeanSame, FirstDiffer, BothRun, FormAndLimit, CompareRow}
 use Rattle.compare.specs.WhatChanged.{refusedBy, sameOf}
-use Rattle.compare.specs.Comparing.{Spelling, spelt, shared, comparedIn, comparison}
-use Rattle.compare.proofs.Sharing.{elementsOf, octetsOf, all-shared, one-otherwise}
+use Rattle.compare.specs.Comparing.{Segment, segmentsIn, shared, comparedIn, comparison}
+use Rattle.compare.proofs.Sharing.{elementsOf, piecesOf, all-shared, one-otherwise}
 use Rattle.compare.proofs.Sharing.{Apart, both-end, first-goes-on, second-goes-on, differ}
-use Rattle.compare.proofs.Spellings.{spelt-exactly, beside, its-run, refused-spelt}
+use Rattle.compare.proofs.Segments.{segments-exactly, beside, its-run, refused-segments}
 use Rattle.compare.proofs.Answered.{Refused, first-refused, second-refused, compared-none, first-over, second-over, both-within}
 use Rattle.compare.proofs.Meetings.{Met, meet, first-on, second-on, both-ended, goes-on, some-left, nothing-on}
 use Rattle.compare.proofs.Meetings.{row-differ, row-second-ends, row-first-ends}
@@ -48,34 +49,39 @@ module _ (f : Form) (s t : List ℕ) where
         rest′ = [];
         whole = sym (append-nil s);
         whole′ = sym (append-nil t);
-        before = a .spellings;
-        before′ = b .spellings;
-        behind = [];
-        behind′ = [];
+        before = a .segments;
+        before′ = b .segments;
+        after = [];
+        after′ = [];
         reads-before = a .reads-so;
         reads-before′ = b .reads-so;
-        reads-behind = spelt-exactly f [] [] .1 ([], Run.done);
-        reads-behind′ = spelt-exactly f [] [] .1 ([], Run.done);
+        reads-after = segments-exactly f [] [] .1 ([], Run.done);
+        reads-after′ = segments-exactly f [] [] .1 ([], Run.done);
         same-elements = a .elements ∙ sym (b .elements);
         apart = both-end;
       }
 
+  -- how many of their elements are spelled otherwise
+  pub otherwise-of : {ps qs : List (List ℕ)} {es : List Element} (r : Run (Spells f) s ps es) (q : Run (Spells f) t qs es)
+      → Otherwise ps qs (shared (beside f r .segments) (beside f q .segments) .otherwise)
+  otherwise-of {qs = qs} r q =
+      let a = beside f r in
+      let b = beside f q in
+      let k = shared (a .segments) (b .segments) .otherwise in
+      subst (λ (x : List (List ℕ)). Otherwise x qs k) (a .octets)
+      (subst (λ (x : List (List ℕ)). Otherwise (piecesOf (a .segments)) x k) (b .octets)
+      (all-shared (a .segments) (b .segments) (a .elements ∙ sym (b .elements)) .spelled-otherwise))
+
   pub row-same : {n k : ℕ} → MeanSame f s t n k → comparedIn f s t ≡ sameOf n (length s) (length t) k
   unfolding met-same
-  row-same {n} {k} m =
-      let a = beside f (m .run) in
-      let b = beside f (m .run′) in
-      let many = shared (a .spellings) (b .spellings) .otherwise in
-      let o = all-shared (a .spellings) (b .spellings) (a .elements ∙ sym (b .elements)) .spelled-otherwise in
-      let e : shared (a .spellings) (b .spellings) .otherwise ≡ k =
-      one-otherwise (subst (λ (x : List (List ℕ)). Otherwise x (m .pieces′) many) (a .octets)
-      (subst (λ (x : List (List ℕ)). Otherwise (octetsOf (a .spellings)) x many) (b .octets) o)) (m .spelled-otherwise) in
+  row-same m =
       both-ended f s t (met-same (m .run) (m .run′)) refl refl
-      ∙ ap₂ (λ (i j : ℕ). sameOf i (length s) (length t) j) (ap length (a .elements) ∙ sym (m .number)) e
+      ∙ ap₂ (λ (i j : ℕ). sameOf i (length s) (length t) j) (ap length (beside f (m .run) .elements) ∙ sym (m .number))
+      (one-otherwise (otherwise-of (m .run) (m .run′)) (m .spelled-otherwise))
 
   fault-refused : (text : List ℕ) {r n p d : ℕ} → ReadingFault f text r n p d → Refused f text (answer r n p (countOf r d))
   fault-refused text {r} {n} {p} {d} h =
-      record { number = r; element = n; place = p; deciding = d; reads = refused-spelt f text r n p d .1 h; answers = refl }
+      record { number = r; element = n; place = p; deciding = d; reads = refused-segments f text r n p d .1 h; answers = refl }
 
 -- ---- from the answer to the row
 
@@ -83,19 +89,19 @@ module _ (f : Form) (s t : List ℕ) where
   pub met-runs : (m : Met f s t)
       → RunOf (Spells f) (m .front) (elementsOf (m .before)) × RunOf (Spells f) (m .front′) (elementsOf (m .before))
   met-runs m = (
-    (octetsOf (m .before), its-run f (m .front) (m .before) (m .reads-before)),
+    (piecesOf (m .before), its-run f (m .front) (m .before) (m .reads-before)),
     (
-      octetsOf (m .before′),
-      subst (λ (l : List Element). Run (Spells f) (m .front′) (octetsOf (m .before′)) l) (sym (m .same-elements))
+      piecesOf (m .before′),
+      subst (λ (l : List Element). Run (Spells f) (m .front′) (piecesOf (m .before′)) l) (sym (m .same-elements))
           (its-run f (m .front′) (m .before′) (m .reads-before′)),
     ),
   )
 
-  pub differ-by : {Behind : List ℕ → List ℕ → Type 0} (m : Met f s t) → Behind (m .rest) (m .rest′)
-      → FirstDiffer f Behind s t (length (elementsOf (m .before))) (length (m .front)) (length (m .front′))
+  pub differ-by : {Rests : List ℕ → List ℕ → Type 0} (m : Met f s t) → Rests (m .rest) (m .rest′)
+      → FirstDiffer f Rests s t (length (elementsOf (m .before))) (length (m .front)) (length (m .front′))
   differ-by m b =
       record {
-        shared = elementsOf (m .before);
+        common = elementsOf (m .before);
         front = m .front;
         rest = m .rest;
         front′ = m .front′;
@@ -104,7 +110,7 @@ module _ (f : Form) (s t : List ℕ) where
         whole′ = m .whole′;
         run = met-runs m .0;
         run′ = met-runs m .1;
-        behind = b;
+        rests = b;
         element-number = refl;
         first-place = refl;
         second-place = refl;
@@ -119,10 +125,10 @@ module _ (f : Form) (s t : List ℕ) where
       let b : m .front′ ≡ t = sym (append-nil (m .front′)) ∙ ap (λ (l : List ℕ). m .front′ ++ l) (sym w) ∙ sym (m .whole′) in
       record {
         elements = elementsOf (m .before);
-        pieces = octetsOf (m .before);
-        pieces′ = octetsOf (m .before′);
-        run = subst (λ (l : List ℕ). Run (Spells f) l (octetsOf (m .before)) (elementsOf (m .before))) a (r .0 .1);
-        run′ = subst (λ (l : List ℕ). Run (Spells f) l (octetsOf (m .before′)) (elementsOf (m .before))) b (r .1 .1);
+        pieces = piecesOf (m .before);
+        pieces′ = piecesOf (m .before′);
+        run = subst (λ (l : List ℕ). Run (Spells f) l (piecesOf (m .before)) (elementsOf (m .before))) a (r .0 .1);
+        run′ = subst (λ (l : List ℕ). Run (Spells f) l (piecesOf (m .before′)) (elementsOf (m .before))) b (r .1 .1);
         spelled-otherwise = all-shared (m .before) (m .before′) (m .same-elements) .spelled-otherwise;
         number = refl;
       }
@@ -131,14 +137,14 @@ module _ (form : ℕ) (first second : List ℕ) where
   abbrev Row : Comparison → Type 0
   Row = CompareRow form first second
 
-  module _ {f : Form} (readable : Readable form first second f) where
+  module _ {f : Form} (readable : FormAndLimit form first second f) where
     to-row : {c : Comparison} → comparedIn f first second ≡ c → Row c → Row (comparedIn f first second)
     to-row q r = subst Row (sym q) r
 
     met-row : (b : BothRun f first second) (m : Met f first second) → Row (comparedIn f first second)
-    met-row b m = go (m .behind) (m .behind′) (m .reads-behind) (m .reads-behind′) (m .apart)
+    met-row b m = go (m .after) (m .after′) (m .reads-after) (m .reads-after′) (m .apart)
       where
-        go : (xs ys : List Spelling) → spelt f (m .rest) ≡ accepted xs → spelt f (m .rest′) ≡ accepted ys → Apart xs ys
+        go : (xs ys : List Segment) → segmentsIn f (m .rest) ≡ accepted xs → segmentsIn f (m .rest′) ≡ accepted ys → Apart xs ys
             → Row (comparedIn f first second)
         go [] [] q r both-end =
             let z = nothing-on f (m .rest) q in
@@ -162,24 +168,24 @@ module _ (form : ℕ) (first second : List ℕ) where
             (differ-by f first second m (record { one = g .0; other = h .0; not-same = λ e. n (sym (g .1) ∙ e ∙ h .1) })))
 
     readings-row : Row (comparedIn f first second)
-    readings-row = go (spelt f first) refl (spelt f second) refl
+    readings-row = go (segmentsIn f first) refl (segmentsIn f second) refl
       where
-        go : (x : Outcome Spelling) → spelt f first ≡ x → (y : Outcome Spelling) → spelt f second ≡ y → Row (comparedIn f first second)
+        go : (x : Outcome Segment) → segmentsIn f first ≡ x → (y : Outcome Segment) → segmentsIn f second ≡ y → Row (comparedIn f first second)
         go (refusal r n p d) q y z =
-            let h = refused-spelt f first r n p d .0 q in
+            let h = refused-segments f first r n p d .0 q in
             to-row (sym (first-refused f first second (fault-refused f first second first h))) (CompareRow.first-refused readable h)
         go (accepted xs) q (refusal r n p d) z =
-            let h = refused-spelt f second r n p d .0 z in
+            let h = refused-segments f second r n p d .0 z in
             to-row
-            (sym (second-refused f first second (record { spellings = xs; reads = q }) (fault-refused f first second second h)))
-            (CompareRow.second-refused readable (octetsOf xs, its-run f first xs q) h)
+            (sym (second-refused f first second (record { segments = xs; reads = q }) (fault-refused f first second second h)))
+            (CompareRow.second-refused readable (piecesOf xs, its-run f first xs q) h)
         go (accepted xs) q (accepted ys) z =
             met-row
             (record {
               meaning = elementsOf xs;
               meaning′ = elementsOf ys;
-              run = (octetsOf xs, its-run f first xs q);
-              run′ = (octetsOf ys, its-run f second ys z);
+              run = (piecesOf xs, its-run f first xs q);
+              run′ = (piecesOf ys, its-run f second ys z);
             }) (meet f first second xs ys q z)
 
   by-second : (f : Form) → formOf form ≡ Is f → length first ≤ limit → (b : Bool) → leb (length second) limit ≡ b
@@ -204,8 +210,8 @@ module _ (form : ℕ) (first second : List ℕ) where
   unfolding comparison
   its-row = by-form (formOf form) refl
 
-  -- of two texts that are read, the answer is by their readings
-  pub readable-is : {f : Form} → Readable form first second f → comparison form first second ≡ comparedIn f first second
+  -- of a form, and two texts within the limit, the answer is by their readings
+  pub readable-is : {f : Form} → FormAndLimit form first second f → comparison form first second ≡ comparedIn f first second
   readable-is r = sym (both-within form first second _ (r .is-form) (r .first-within) (r .second-within))
 
   of-row : {c : Comparison} → Row c → comparison form first second ≡ c
@@ -217,7 +223,7 @@ module _ (form : ℕ) (first second : List ℕ) where
       let b = beside f (e .1) in
       readable-is r
       ∙ sym
-      (second-refused f first second (record { spellings = b .spellings; reads = b .reads-so }) (fault-refused f first second second h))
+      (second-refused f first second (record { segments = b .segments; reads = b .reads-so }) (fault-refused f first second second h))
   of-row (CompareRow.mean-same {f} r m) = readable-is r ∙ row-same f first second m
   of-row (CompareRow.differ {f} r b d) = readable-is r ∙ row-differ f first second b d
   of-row (CompareRow.second-ends {f} r b d) = readable-is r ∙ row-second-ends f first second b d
@@ -226,3 +232,34 @@ module _ (form : ℕ) (first second : List ℕ) where
   -- The eleven numbers are exactly those of the row that document 02 gives.
   pub compared-exactly : (c : Comparison) → (comparison form first second ≡ c) ↔ CompareRow form first second c
   compared-exactly c = (λ q. subst Row q its-row, of-row)
+
+  -- ---- the part that is handed back lies within its text
+
+  -- the text and the place that a comparison names
+  pub record TailInside (c : Comparison) : Type 0 where
+    pub of-second : c .«tail_text» ≡ 2 → c .«tail_place» ≤ length second
+    pub of-first : (c .«tail_text» ≡ 2 → ⊥) → c .«tail_place» ≤ length first
+
+  in-first : {c : Comparison} → c .«tail_text» ≡ 1 → c .«tail_place» ≤ length first → TailInside c
+  in-first t l = record { of-second = λ e. absurd (omega arith); of-first = λ n. l }
+
+  front-inside : (whole front rest : List ℕ) {p : ℕ} → whole ≡ front ++ rest → p ≡ length front → p ≤ length whole
+  front-inside whole front rest q e = omega (arith, ap length q, length-append front rest)
+
+  row-inside : {c : Comparison} → Row c → TailInside c
+  row-inside (CompareRow.no-form n) = in-first refl (omega arith)
+  row-inside (CompareRow.first-over q l) = in-first refl (omega arith)
+  row-inside (CompareRow.second-over q l h) = in-first refl (omega arith)
+  row-inside (CompareRow.first-refused r h) = in-first refl (omega arith)
+  row-inside (CompareRow.second-refused r e h) = in-first refl (omega arith)
+  row-inside (CompareRow.mean-same r m) = in-first refl (omega arith)
+  row-inside (CompareRow.differ r b d) = in-first refl (front-inside first (d .front) (d .rest) (d .whole) (d .first-place))
+  row-inside (CompareRow.second-ends r b d) = in-first refl (front-inside first (d .front) (d .rest) (d .whole) (d .first-place))
+  row-inside (CompareRow.first-ends r b d) =
+      record {
+        of-second = λ e. front-inside second (d .front′) (d .rest′) (d .whole′) (d .second-place);
+        of-first = λ n. absurd (n refl);
+      }
+
+  pub tail-inside : TailInside (comparison form first second)
+  tail-inside = row-inside its-row

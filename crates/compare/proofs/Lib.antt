@@ -1,6 +1,6 @@
 pub mod SameTests
 pub mod Sharing
-pub mod Spellings
+pub mod Segments
 pub mod Walks
 pub mod Sizes
 pub mod Answered

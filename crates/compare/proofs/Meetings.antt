@@ -16,10 +16,10 @@ use Rattle.element_reading.specs.ElementHead.{headIn}
 use Rattle.element_reading.proofs.Reader.{reads}
 use Rattle.compare.specs.declared.Shared.{Shared}
 use Rattle.compare.specs.WhatChanged.{GoesOn, Differ, FirstDiffer, BothRun, sameOf, differAt}
-use Rattle.compare.specs.Comparing.{Spelling, spelt, behind, shared, toldBy, byReadings, comparedIn}
-use Rattle.compare.proofs.Sharing.{elementsOf, manyOctets, shared-behind, all-shared, apart-nothing, behind-nothing}
+use Rattle.compare.specs.Comparing.{Segment, segmentsIn, andThen, shared, toldBy, byReadings, comparedIn}
+use Rattle.compare.proofs.Sharing.{elementsOf, octetCount, shared-on, all-shared, apart-nothing, then-nothing}
 use Rattle.compare.proofs.Sharing.{Apart, both-end, first-goes-on, second-goes-on, differ, parted}
-use Rattle.compare.proofs.Spellings.{SpeltBy, Beside, spelt-reads, spelt-exactly, own-length, beside, first, at-end}
+use Rattle.compare.proofs.Segments.{SpellsSegment, Beside, segments-read, segments-exactly, own-length, beside, first, at-end}
 use Rattle.compare.proofs.Answered.{told-first, told-second, told-same}
 
 pub record Met (f : Form) (s t : List ℕ) : Type 0 where
@@ -29,20 +29,20 @@ pub record Met (f : Form) (s t : List ℕ) : Type 0 where
   pub rest′ : List ℕ
   pub whole : s ≡ front ++ rest
   pub whole′ : t ≡ front′ ++ rest′
-  pub before : List Spelling
-  pub before′ : List Spelling
-  pub behind : List Spelling
-  pub behind′ : List Spelling
-  pub reads-before : spelt f front ≡ accepted before
-  pub reads-before′ : spelt f front′ ≡ accepted before′
-  pub reads-behind : spelt f rest ≡ accepted behind
-  pub reads-behind′ : spelt f rest′ ≡ accepted behind′
+  pub before : List Segment
+  pub before′ : List Segment
+  pub after : List Segment
+  pub after′ : List Segment
+  pub reads-before : segmentsIn f front ≡ accepted before
+  pub reads-before′ : segmentsIn f front′ ≡ accepted before′
+  pub reads-after : segmentsIn f rest ≡ accepted after
+  pub reads-after′ : segmentsIn f rest′ ≡ accepted after′
   pub same-elements : elementsOf before ≡ elementsOf before′
-  pub apart : Apart behind behind′
+  pub apart : Apart after after′
 
 -- how many octets a text has whose elements are these
-pub read-length : (f : Form) (s : List ℕ) (xs : List Spelling) → spelt f s ≡ accepted xs → manyOctets xs ≡ length s
-read-length f s xs q = own-length f (spelt-exactly f s xs .0 q .1)
+pub read-length : (f : Form) (s : List ℕ) (xs : List Segment) → segmentsIn f s ≡ accepted xs → octetCount xs ≡ length s
+read-length f s xs q = own-length f (segments-exactly f s xs .0 q .1)
 
 module _ (f : Form) (s t : List ℕ) (m : Met f s t) where
   -- the places, the lengths
@@ -52,25 +52,25 @@ module _ (f : Form) (s t : List ℕ) (m : Met f s t) where
   second-length : length t ≡ length (m .front′) + length (m .rest′)
   second-length = ap length (m .whole′) ∙ length-append (m .front′) (m .rest′)
 
-  pub reads-whole : spelt f s ≡ accepted (m .before ++ m .behind)
+  pub reads-whole : segmentsIn f s ≡ accepted (m .before ++ m .after)
   reads-whole =
-      ap (spelt f) (m .whole)
-      ∙ outcomes.joined-accepted (spelt-reads f) (m .front) (m .rest) (m .before) (m .behind) (m .reads-before) (m .reads-behind)
+      ap (segmentsIn f) (m .whole)
+      ∙ outcomes.joined-accepted (segments-read f) (m .front) (m .rest) (m .before) (m .after) (m .reads-before) (m .reads-after)
 
-  pub reads-whole′ : spelt f t ≡ accepted (m .before′ ++ m .behind′)
+  pub reads-whole′ : segmentsIn f t ≡ accepted (m .before′ ++ m .after′)
   reads-whole′ =
-      ap (spelt f) (m .whole′)
-      ∙ outcomes.joined-accepted (spelt-reads f) (m .front′) (m .rest′) (m .before′) (m .behind′) (m .reads-before′) (m .reads-behind′)
+      ap (segmentsIn f) (m .whole′)
+      ∙ outcomes.joined-accepted (segments-read f) (m .front′) (m .rest′) (m .before′) (m .after′) (m .reads-before′) (m .reads-after′)
 
   -- what both share
   abbrev Before : Shared
   Before = shared (m .before) (m .before′)
 
-  pub met-shared : shared (m .before ++ m .behind) (m .before′ ++ m .behind′) ≡ Before
+  pub met-shared : shared (m .before ++ m .after) (m .before′ ++ m .after′) ≡ Before
   met-shared =
-      shared-behind (m .before) (m .before′) (m .behind) (m .behind′) (m .same-elements)
-      ∙ ap (behind Before) (apart-nothing (m .apart))
-      ∙ behind-nothing Before
+      shared-on (m .before) (m .before′) (m .after) (m .after′) (m .same-elements)
+      ∙ ap (andThen Before) (apart-nothing (m .apart))
+      ∙ then-nothing Before
 
   pub met-elements : Before .elements ≡ length (elementsOf (m .before))
   met-elements = all-shared (m .before) (m .before′) (m .same-elements) .many
@@ -125,16 +125,13 @@ module _ (f : Form) (s t : List ℕ) (m : Met f s t) where
 
 -- ---- two accepted texts meet
 
-no-octets : (f : Form) (s : List ℕ) (xs : List Spelling) → spelt f s ≡ accepted xs → xs ≡ [] → length s ≡ 0
-no-octets f s xs q e = sym (read-length f s xs q) ∙ ap manyOctets e
-
-pub meet : (f : Form) (s t : List ℕ) (xs ys : List Spelling) → spelt f s ≡ accepted xs → spelt f t ≡ accepted ys → Met f s t
+pub meet : (f : Form) (s t : List ℕ) (xs ys : List Segment) → segmentsIn f s ≡ accepted xs → segmentsIn f t ≡ accepted ys → Met f s t
 meet f s t xs ys q r =
     let p = parted xs ys in
-    let i = spelt-exactly f s xs .0 q in
-    let j = spelt-exactly f t ys .0 r in
-    let a = run-cut (p .front) (p .rest) (subst (λ (l : List Spelling). Run (SpeltBy f) s (i .0) l) (p .whole) (i .1)) in
-    let b = run-cut (p .front′) (p .rest′) (subst (λ (l : List Spelling). Run (SpeltBy f) t (j .0) l) (p .whole′) (j .1)) in
+    let i = segments-exactly f s xs .0 q in
+    let j = segments-exactly f t ys .0 r in
+    let a = run-cut (p .front) (p .rest) (subst (λ (l : List Segment). Run (SpellsSegment f) s (i .0) l) (p .whole) (i .1)) in
+    let b = run-cut (p .front′) (p .rest′) (subst (λ (l : List Segment). Run (SpellsSegment f) t (j .0) l) (p .whole′) (j .1)) in
     record {
       front = a .front;
       rest = a .rest;
@@ -144,12 +141,12 @@ meet f s t xs ys q r =
       whole′ = b .whole;
       before = p .front;
       before′ = p .front′;
-      behind = p .rest;
-      behind′ = p .rest′;
-      reads-before = spelt-exactly f (a .front) (p .front) .1 (a .run);
-      reads-before′ = spelt-exactly f (b .front) (p .front′) .1 (b .run);
-      reads-behind = spelt-exactly f (a .rest) (p .rest) .1 (a .run-rest);
-      reads-behind′ = spelt-exactly f (b .rest) (p .rest′) .1 (b .run-rest);
+      after = p .rest;
+      after′ = p .rest′;
+      reads-before = segments-exactly f (a .front) (p .front) .1 (a .run);
+      reads-before′ = segments-exactly f (b .front) (p .front′) .1 (b .run);
+      reads-after = segments-exactly f (a .rest) (p .rest) .1 (a .run-rest);
+      reads-after′ = segments-exactly f (b .rest) (p .rest′) .1 (b .run-rest);
       same-elements = p .same-elements;
       apart = p .apart;
     }
@@ -161,22 +158,22 @@ pub data Verdict (f : Form) (s t : List ℕ) (m : Met f s t) : Type 0 where
       → comparedIn f s t ≡ differAt (length (elementsOf (m .before))) (length (m .front)) (length (m .front′)) text place → Verdict f s t m
 
 -- some are left where an element is
-pub some-left : (f : Form) (s : List ℕ) (x : Spelling) (xs : List Spelling) → spelt f s ≡ accepted (x ∷ xs) → 0 < length s
-some-left f s x xs q = go (spelt-exactly f s (x ∷ xs) .0 q .1)
+pub some-left : (f : Form) (s : List ℕ) (x : Segment) (xs : List Segment) → segmentsIn f s ≡ accepted (x ∷ xs) → 0 < length s
+some-left f s x xs q = go (segments-exactly f s (x ∷ xs) .0 q .1)
   where
-    go : {u : List ℕ} {ps : List (List ℕ)} → Run (SpeltBy f) u ps (x ∷ xs) → 0 < length u
+    go : {u : List ℕ} {ps : List (List ℕ)} → Run (SpellsSegment f) u ps (x ∷ xs) → 0 < length u
     go (more {p} {s = v} sp r) = omega (arith, reads f .some p (x .0) (sp .0), length-append p v)
 
-pub nothing-on : (f : Form) (s : List ℕ) → spelt f s ≡ accepted [] → s ≡ []
-nothing-on f s q = go (spelt-exactly f s [] .0 q .1)
+pub nothing-on : (f : Form) (s : List ℕ) → segmentsIn f s ≡ accepted [] → s ≡ []
+nothing-on f s q = go (segments-exactly f s [] .0 q .1)
   where
-    go : {u : List ℕ} {ps : List (List ℕ)} → Run (SpeltBy f) u ps [] → u ≡ []
+    go : {u : List ℕ} {ps : List (List ℕ)} → Run (SpellsSegment f) u ps [] → u ≡ []
     go done = refl
 
 pub verdict : (f : Form) (s t : List ℕ) (m : Met f s t) → Verdict f s t m
-verdict f s t m = go (m .behind) (m .behind′) (m .reads-behind) (m .reads-behind′) (m .apart)
+verdict f s t m = go (m .after) (m .after′) (m .reads-after) (m .reads-after′) (m .apart)
   where
-    go : (xs ys : List Spelling) → spelt f (m .rest) ≡ accepted xs → spelt f (m .rest′) ≡ accepted ys → Apart xs ys → Verdict f s t m
+    go : (xs ys : List Segment) → segmentsIn f (m .rest) ≡ accepted xs → segmentsIn f (m .rest′) ≡ accepted ys → Apart xs ys → Verdict f s t m
     go [] [] q r both-end = ended (nothing-on f (m .rest) q) (nothing-on f (m .rest′) r)
     go (x ∷ xs) [] q r first-goes-on = goes 1 (length (m .front)) (first-on f s t m (some-left f (m .rest) x xs q))
     go [] (y ∷ ys) q r second-goes-on =
@@ -187,32 +184,32 @@ verdict f s t m = go (m .behind) (m .behind′) (m .reads-behind) (m .reads-behi
 -- ---- and so do two that first differ somewhere
 
 -- what is left of an accepted text behind a run is accepted
-pub record Left (f : Form) (rest : List ℕ) (xs before : List Spelling) : Type 0 where
-  pub spellings : List Spelling
-  pub reads-so : spelt f rest ≡ accepted spellings
-  pub whole : xs ≡ before ++ spellings
+pub record RestRead (f : Form) (rest : List ℕ) (xs before : List Segment) : Type 0 where
+  pub segments : List Segment
+  pub reads-so : segmentsIn f rest ≡ accepted segments
+  pub whole : xs ≡ before ++ segments
 
-pub left : (f : Form) (front rest : List ℕ) (before xs : List Spelling) → spelt f front ≡ accepted before
-    → spelt f (front ++ rest) ≡ accepted xs → Left f rest xs before
-left f front rest before xs q r = go (spelt f rest) refl
+pub rest-of : (f : Form) (front rest : List ℕ) (before xs : List Segment) → segmentsIn f front ≡ accepted before
+    → segmentsIn f (front ++ rest) ≡ accepted xs → RestRead f rest xs before
+rest-of f front rest before xs q r = go (segmentsIn f rest) refl
   where
-    go : (x : Outcome Spelling) → spelt f rest ≡ x → Left f rest xs before
+    go : (x : Outcome Segment) → segmentsIn f rest ≡ x → RestRead f rest xs before
     go (accepted ys) e =
-        let z = sym r ∙ outcomes.joined (spelt-reads f) front rest before q ∙ ap (join before (length front)) e in
-        record { spellings = ys; reads-so = e; whole = cc }
+        let z = sym r ∙ outcomes.joined (segments-read f) front rest before q ∙ ap (join before (length front)) e in
+        record { segments = ys; reads-so = e; whole = cc }
     go (refusal a b c d) e =
-        let z = sym r ∙ outcomes.joined (spelt-reads f) front rest before q ∙ ap (join before (length front)) e in
+        let z = sym r ∙ outcomes.joined (segments-read f) front rest before q ∙ ap (join before (length front)) e in
         let w : _≡_ {A = ℕ} 0 1 = cc in
         absurd (omega arith)
 
 -- the first of its elements, where one begins there
-pub record Beginning (f : Form) (s : List ℕ) (xs : List Spelling) (e : Element) : Type 0 where
+pub record Beginning (f : Form) (s : List ℕ) (xs : List Segment) (e : Element) : Type 0 where
   pub octets : List ℕ
-  pub rest : List Spelling
+  pub rest : List Segment
   pub whole : xs ≡ (e, octets) ∷ rest
   pub some : 0 < length s
 
-pub beginning : (f : Form) (s : List ℕ) (xs : List Spelling) → spelt f s ≡ accepted xs → (g : GoesOn f s) → Beginning f s xs (g .what)
+pub beginning : (f : Form) (s : List ℕ) (xs : List Segment) → segmentsIn f s ≡ accepted xs → (g : GoesOn f s) → Beginning f s xs (g .what)
 beginning f s xs q g =
     let b = g .begins in
     let some : 0 < length s =
@@ -228,11 +225,11 @@ beginning f s xs q g =
     }
 
 -- an element begins where some are
-pub goes-on : (f : Form) (s : List ℕ) (x : Spelling) (xs : List Spelling) → spelt f s ≡ accepted (x ∷ xs)
+pub goes-on : (f : Form) (s : List ℕ) (x : Segment) (xs : List Segment) → segmentsIn f s ≡ accepted (x ∷ xs)
     → (g : GoesOn f s) × (g .what ≡ x .0)
-goes-on f s x xs q = go (spelt-exactly f s (x ∷ xs) .0 q .1)
+goes-on f s x xs q = go (segments-exactly f s (x ∷ xs) .0 q .1)
   where
-    go : {u : List ℕ} {ps : List (List ℕ)} → Run (SpeltBy f) u ps (x ∷ xs) → (g : GoesOn f u) × (g .what ≡ x .0)
+    go : {u : List ℕ} {ps : List (List ℕ)} → Run (SpellsSegment f) u ps (x ∷ xs) → (g : GoesOn f u) × (g .what ≡ x .0)
     go (more {p} {s = v} sp r) = (
       record {
         what = x .0;
@@ -243,12 +240,12 @@ goes-on f s x xs q = go (spelt-exactly f s (x ∷ xs) .0 q .1)
     )
 
 -- what is left of each text, by what the request says of it
-module _ (f : Form) {Behind : List ℕ → List ℕ → Type 0} (s t : List ℕ) {n p q : ℕ} (b : BothRun f s t)
-    (d : FirstDiffer f Behind s t n p q) where
-  pub front-read : Beside f (d .front) (d .run .0) (d .shared)
+module _ (f : Form) {Rests : List ℕ → List ℕ → Type 0} (s t : List ℕ) {n p q : ℕ} (b : BothRun f s t)
+    (d : FirstDiffer f Rests s t n p q) where
+  pub front-read : Beside f (d .front) (d .run .0) (d .common)
   front-read = beside f (d .run .1)
 
-  pub front-read′ : Beside f (d .front′) (d .run′ .0) (d .shared)
+  pub front-read′ : Beside f (d .front′) (d .run′ .0) (d .common)
   front-read′ = beside f (d .run′ .1)
 
   pub whole-read : Beside f s (b .run .0) (b .meaning)
@@ -257,17 +254,17 @@ module _ (f : Form) {Behind : List ℕ → List ℕ → Type 0} (s t : List ℕ)
   pub whole-read′ : Beside f t (b .run′ .0) (b .meaning′)
   whole-read′ = beside f (b .run′ .1)
 
-  pub rest-read : Left f (d .rest) (whole-read .spellings) (front-read .spellings)
+  pub rest-read : RestRead f (d .rest) (whole-read .segments) (front-read .segments)
   rest-read =
-      left f (d .front) (d .rest) (front-read .spellings) (whole-read .spellings) (front-read .reads-so)
-      (ap (spelt f) (sym (d .whole)) ∙ whole-read .reads-so)
+      rest-of f (d .front) (d .rest) (front-read .segments) (whole-read .segments) (front-read .reads-so)
+      (ap (segmentsIn f) (sym (d .whole)) ∙ whole-read .reads-so)
 
-  pub rest-read′ : Left f (d .rest′) (whole-read′ .spellings) (front-read′ .spellings)
+  pub rest-read′ : RestRead f (d .rest′) (whole-read′ .segments) (front-read′ .segments)
   rest-read′ =
-      left f (d .front′) (d .rest′) (front-read′ .spellings) (whole-read′ .spellings) (front-read′ .reads-so)
-      (ap (spelt f) (sym (d .whole′)) ∙ whole-read′ .reads-so)
+      rest-of f (d .front′) (d .rest′) (front-read′ .segments) (whole-read′ .segments) (front-read′ .reads-so)
+      (ap (segmentsIn f) (sym (d .whole′)) ∙ whole-read′ .reads-so)
 
-  pub met-by : Apart (rest-read .spellings) (rest-read′ .spellings) → Met f s t
+  pub met-by : Apart (rest-read .segments) (rest-read′ .segments) → Met f s t
   met-by a =
       record {
         front = d .front;
@@ -276,30 +273,30 @@ module _ (f : Form) {Behind : List ℕ → List ℕ → Type 0} (s t : List ℕ)
         rest′ = d .rest′;
         whole = d .whole;
         whole′ = d .whole′;
-        before = front-read .spellings;
-        before′ = front-read′ .spellings;
-        behind = rest-read .spellings;
-        behind′ = rest-read′ .spellings;
+        before = front-read .segments;
+        before′ = front-read′ .segments;
+        after = rest-read .segments;
+        after′ = rest-read′ .segments;
         reads-before = front-read .reads-so;
         reads-before′ = front-read′ .reads-so;
-        reads-behind = rest-read .reads-so;
-        reads-behind′ = rest-read′ .reads-so;
+        reads-after = rest-read .reads-so;
+        reads-after′ = rest-read′ .reads-so;
         same-elements = front-read .elements ∙ sym (front-read′ .elements);
         apart = a;
       }
 
   -- the numbers
-  met-number : length (elementsOf (front-read .spellings)) ≡ n
+  met-number : length (elementsOf (front-read .segments)) ≡ n
   met-number = ap length (front-read .elements) ∙ sym (d .element-number)
 
   pub differ-numbers : (text place place′ : ℕ) → place ≡ place′
-      → differAt (length (elementsOf (front-read .spellings))) (length (d .front)) (length (d .front′)) text place ≡ differAt n p q text place′
+      → differAt (length (elementsOf (front-read .segments))) (length (d .front)) (length (d .front′)) text place ≡ differAt n p q text place′
   differ-numbers text place place′ e =
       ap₂ (λ (a b : ℕ). differAt a b (length (d .front′)) text place) met-number (sym (d .first-place))
       ∙ ap₂ (λ (a b : ℕ). differAt n p a text b) (sym (d .second-place)) e
 
-apart-as : {xs xs′ ys ys′ : List Spelling} → xs ≡ xs′ → ys ≡ ys′ → Apart xs′ ys′ → Apart xs ys
-apart-as {xs} {xs′} {ys} {ys′} p q a = subst (λ (l : List Spelling). Apart l ys) (sym p) (subst (Apart xs′) (sym q) a)
+apart-as : {xs xs′ ys ys′ : List Segment} → xs ≡ xs′ → ys ≡ ys′ → Apart xs′ ys′ → Apart xs ys
+apart-as {xs} {xs′} {ys} {ys′} p q a = subst (λ (l : List Segment). Apart l ys) (sym p) (subst (Apart xs′) (sym q) a)
 
 module _ (f : Form) (s t : List ℕ) {n p q : ℕ} (b : BothRun f s t) where
   -- "if they differ before either ends"
@@ -308,9 +305,9 @@ module _ (f : Form) (s t : List ℕ) {n p q : ℕ} (b : BothRun f s t) where
   row-differ d =
       let l = rest-read f s t b d in
       let r = rest-read′ f s t b d in
-      let x = beginning f (d .rest) (l .spellings) (l .reads-so) (d .behind .one) in
-      let y = beginning f (d .rest′) (r .spellings) (r .reads-so) (d .behind .other) in
-      let m = met-by f s t b d (apart-as (x .whole) (y .whole) (differ (d .behind .not-same))) in
+      let x = beginning f (d .rest) (l .segments) (l .reads-so) (d .rests .one) in
+      let y = beginning f (d .rest′) (r .segments) (r .reads-so) (d .rests .other) in
+      let m = met-by f s t b d (apart-as (x .whole) (y .whole) (differ (d .rests .not-same))) in
       first-on f s t m (x .some) ∙ differ-numbers f s t b d 1 (length (d .front)) p (sym (d .first-place))
 
   -- the second text ends first
@@ -319,8 +316,8 @@ module _ (f : Form) (s t : List ℕ) {n p q : ℕ} (b : BothRun f s t) where
   row-second-ends d =
       let l = rest-read f s t b d in
       let r = rest-read′ f s t b d in
-      let x = beginning f (d .rest) (l .spellings) (l .reads-so) (d .behind .0) in
-      let y = at-end f (d .rest′) (r .spellings) (r .reads-so) (ap length (d .behind .1)) in
+      let x = beginning f (d .rest) (l .segments) (l .reads-so) (d .rests .0) in
+      let y = at-end f (d .rest′) (r .segments) (r .reads-so) (ap length (d .rests .1)) in
       let m = met-by f s t b d (apart-as (x .whole) y first-goes-on) in
       first-on f s t m (x .some) ∙ differ-numbers f s t b d 1 (length (d .front)) p (sym (d .first-place))
 
@@ -330,8 +327,8 @@ module _ (f : Form) (s t : List ℕ) {n p q : ℕ} (b : BothRun f s t) where
   row-first-ends d =
       let l = rest-read f s t b d in
       let r = rest-read′ f s t b d in
-      let x = at-end f (d .rest) (l .spellings) (l .reads-so) (ap length (d .behind .0)) in
-      let y = beginning f (d .rest′) (r .spellings) (r .reads-so) (d .behind .1) in
+      let x = at-end f (d .rest) (l .segments) (l .reads-so) (ap length (d .rests .0)) in
+      let y = beginning f (d .rest′) (r .segments) (r .reads-so) (d .rests .1) in
       let m = met-by f s t b d (apart-as x (y .whole) second-goes-on) in
-      second-on f s t m (ap length (d .behind .0)) (y .some)
+      second-on f s t m (ap length (d .rests .0)) (y .some)
       ∙ differ-numbers f s t b d 2 (length (d .front′)) q (sym (d .second-place))

@@ -10,19 +10,11 @@ use lib.ListN.{length, take, drop, getD}
 use lib.Seq.{drop-cons}
 use borrow.Author.Tests.{eqb-true, eq-eqb, ne-eqb}
 use Rattle.run.specs.Choice.{pick}
+use Rattle.run.proofs.Choices.{both-true, true-both}
 use Rattle.sequence_reading.specs.declared.Values.{Values}
 use Rattle.element_words.specs.declared.Element.{Element}
 use Rattle.element_words.specs.declared.Element.the-variants.{One, Sequence as SequenceOf}
 use Rattle.compare.specs.Comparing.{sameOctets, sameValues, sameElement}
-
--- both of two tests, one behind the other
-both : (a b : Bool) → pick a b false ≡ true → (a ≡ true) × (b ≡ true)
-both true b e = (refl, e)
-both false b e = let z : _≡_ {A = ℕ} 0 1 = cc in absurd (omega arith)
-
-both-hold : (a b : Bool) → a ≡ true → b ≡ true → pick a b false ≡ true
-both-hold true b e h = h
-both-hold false b e h = let z : _≡_ {A = ℕ} 0 1 = cc in absurd (omega arith)
 
 -- a test that does not hold fails
 pub fails : (a : Bool) → (a ≡ true → ⊥) → a ≡ false
@@ -42,11 +34,11 @@ same-octets-are [] [] e = refl
 same-octets-are [] (u ∷ t) e = let z : _≡_ {A = ℕ} 0 1 = cc in absurd (omega arith)
 same-octets-are (o ∷ s) [] e = let z : _≡_ {A = ℕ} 0 1 = cc in absurd (omega arith)
 same-octets-are (o ∷ s) (u ∷ t) e =
-    let b = both (eqb o u) (sameOctets s t) e in ap₂ _∷_ (eqb-true o u (b .0)) (same-octets-are s t (b .1))
+    let b = both-true (eqb o u) (sameOctets s t) e in ap₂ _∷_ (eqb-true o u (b .0)) (same-octets-are s t (b .1))
 
 pub are-same-octets : (s : List ℕ) → sameOctets s s ≡ true
 are-same-octets [] = refl
-are-same-octets (o ∷ s) = both-hold (eqb o o) (sameOctets s s) (eq-eqb o o refl) (are-same-octets s)
+are-same-octets (o ∷ s) = true-both (eqb o o) (sameOctets s s) (eq-eqb o o refl) (are-same-octets s)
 
 pub other-octets : (s t : List ℕ) → (s ≡ t → ⊥) → sameOctets s t ≡ false
 other-octets s t h = fails (sameOctets s t) (λ e. h (same-octets-are s t e))
@@ -60,12 +52,12 @@ octets-exchanged s t =
 
 -- the loop over two texts: what is left of the test at the k-th octet
 module _ (first second : List ℕ) (i j size : ℕ) where
-  abbrev pub Left : ℕ → Type 0
-  Left k =
+  abbrev pub TestLeft : ℕ → Type 0
+  TestLeft k =
       sameOctets (take size (drop i first)) (take size (drop j second))
       ≡ sameOctets (take (size - k) (drop (i + k) first)) (take (size - k) (drop (j + k) second))
 
-  pub left-start : Left 0
+  pub left-start : TestLeft 0
   left-start =
       let s : size ≡ size - 0 = omega arith in
       let a : i ≡ i + 0 = omega arith in
@@ -73,12 +65,12 @@ module _ (first second : List ℕ) (i j size : ℕ) where
       ap₂ (λ (k a : ℕ). sameOctets (take k (drop a first)) (take k (drop j second))) s a
       ∙ ap (λ (b : ℕ). sameOctets (take (size - 0) (drop (i + 0) first)) (take (size - 0) (drop b second))) b
 
-  pub left-end : {k : ℕ} → Left k → size ≤ k → true ≡ sameOctets (take size (drop i first)) (take size (drop j second))
+  pub left-end : {k : ℕ} → TestLeft k → size ≤ k → true ≡ sameOctets (take size (drop i first)) (take size (drop j second))
   left-end {k} was h =
       let z : size - k ≡ 0 = omega arith in
       sym (was ∙ ap (λ (n : ℕ). sameOctets (take n (drop (i + k) first)) (take n (drop (j + k) second))) z)
 
-  module _ {k : ℕ} (was : Left k) (h : k < size) (l : i + size ≤ length first) (m : j + size ≤ length second) where
+  module _ {k : ℕ} (was : TestLeft k) (h : k < size) (l : i + size ≤ length first) (m : j + size ≤ length second) where
     here : sameOctets (take size (drop i first)) (take size (drop j second))
         ≡ pick (eqb (getD first (i + k) 0) (getD second (j + k) 0))
         (sameOctets (take (size - (k + 1)) (drop (i + (k + 1)) first)) (take (size - (k + 1)) (drop (j + (k + 1)) second))) false
@@ -98,7 +90,7 @@ module _ (first second : List ℕ) (i j size : ℕ) where
         → false ≡ sameOctets (take size (drop i first)) (take size (drop j second))
     left-stop n = sym (here ∙ simp (ne-eqb (getD first (i + k) 0) (getD second (j + k) 0) n))
 
-    pub left-more : getD first (i + k) 0 ≡ getD second (j + k) 0 → Left (k + 1)
+    pub left-more : getD first (i + k) 0 ≡ getD second (j + k) 0 → TestLeft (k + 1)
     left-more e = here ∙ simp (eq-eqb (getD first (i + k) 0) (getD second (j + k) 0) e)
 
 -- ---- elements
@@ -111,13 +103,13 @@ values-of e0 e1 e2 e3 e4 e5 e6 e7 = cc
 
 same-values-are : (a b : Values) → sameValues a b ≡ true → a ≡ b
 same-values-are a b e =
-    let t0 = both _ _ e in
-    let t1 = both _ _ (t0 .1) in
-    let t2 = both _ _ (t1 .1) in
-    let t3 = both _ _ (t2 .1) in
-    let t4 = both _ _ (t3 .1) in
-    let t5 = both _ _ (t4 .1) in
-    let t6 = both _ _ (t5 .1) in
+    let t0 = both-true _ _ e in
+    let t1 = both-true _ _ (t0 .1) in
+    let t2 = both-true _ _ (t1 .1) in
+    let t3 = both-true _ _ (t2 .1) in
+    let t4 = both-true _ _ (t3 .1) in
+    let t5 = both-true _ _ (t4 .1) in
+    let t6 = both-true _ _ (t5 .1) in
     values-of (eqb-true _ _ (t0 .0)) (eqb-true _ _ (t1 .0)) (eqb-true _ _ (t2 .0)) (eqb-true _ _ (t3 .0)) (eqb-true _ _ (t4 .0))
     (eqb-true _ _ (t5 .0)) (eqb-true _ _ (t6 .0)) (eqb-true _ _ (t6 .1))
 
@@ -157,8 +149,8 @@ same-element-is (One v) (One w) e = ap One (eqb-true v w e)
 same-element-is (One v) (SequenceOf h n vs) e = let z : _≡_ {A = ℕ} 0 1 = cc in absurd (omega arith)
 same-element-is (SequenceOf h n vs) (One w) e = let z : _≡_ {A = ℕ} 0 1 = cc in absurd (omega arith)
 same-element-is (SequenceOf h n vs) (SequenceOf i m ws) e =
-    let t = both (eqb h i) _ e in
-    let u = both (eqb n m) _ (t .1) in
+    let t = both-true (eqb h i) _ e in
+    let u = both-true (eqb n m) _ (t .1) in
     let q = eqb-true h i (t .0) in
     let r = eqb-true n m (u .0) in
     let v = same-values-are vs ws (u .1) in
@@ -167,7 +159,7 @@ same-element-is (SequenceOf h n vs) (SequenceOf i m ws) e =
 pub is-same-element : (a : Element) → sameElement a a ≡ true
 is-same-element (One w) = eq-eqb w w refl
 is-same-element (SequenceOf h n vs) =
-    both-hold (eqb h h) _ (eq-eqb h h refl) (both-hold (eqb n n) _ (eq-eqb n n refl) (are-same-values vs))
+    true-both (eqb h h) _ (eq-eqb h h refl) (true-both (eqb n n) _ (eq-eqb n n refl) (are-same-values vs))
 
 pub other-element : (a b : Element) → (a ≡ b → ⊥) → sameElement a b ≡ false
 other-element a b h = fails (sameElement a b) (λ e. h (same-element-is a b e))

@@ -1,13 +1,19 @@
--- The theorems of record of comparing: request No. 4's sentences, in the words of WhatChanged and of the grammar. They speak of `comparison`,
--- which the contracts cite (`ComparedPromise`, `ComparePromise`); that it is document 02's rows is proofs/Exactly, compared-exactly.
+-- The theorems of record of comparing: request No. 4's sentences, in the words of WhatChanged and of the grammar. They speak of
+-- `comparison`, which the contracts cite (`ComparedPromise`, `ComparePromise`); that it is document 02's rows is proofs/Exactly,
+-- compared-exactly.
 -- Assumes nothing.
 use Prim.Native.Nat.{ℕ, _+_, _≤_, _<_}
 use mathlib.Core.Path.{_≡_, refl, sym, ap, ap₂, _∙_, subst}
-use mathlib.Core.Logic.{_↔_, inl, inr}
-use mathlib.Core.List.{List, [], _∷_, _++_}
+use mathlib.Core.Logic.{_↔_}
+use mathlib.Core.List.{List, [], _∷_, _++_, map-append}
 use native.Mathlib.Omega.{arith}
-use lib.ListN.{length, take, drop}
+use lib.Dec.{eqb}
+use lib.ListN.{length, take, drop, length-append}
+use denote.Ref.{RefT}
 use lib.Seq.{take-append-seam, drop-append-seam, drop-length}
+use Rattle.run.specs.Choice.{pick}
+use Rattle.run.specs.Head.{Outcome, accepted, refusal}
+use Rattle.run.specs.Tagged.{untagged}
 use Rattle.run.specs.Grammar.{Run, done, more, RunOf}
 use Rattle.run.specs.declared.Answer.{Answer}
 use Rattle.run.specs.Answers.{answer, bare, countOf, given, roomyAnswer}
@@ -25,19 +31,22 @@ use Rattle.element_spelling.specs.ElementOctets.{CanonicalElement, Held}
 use Rattle.element_spelling.proofs.Writer.{canonical-spells, canonical-proper, read-held}
 use Rattle.element_reading.proofs.Places.{reading-number}
 use Rattle.text_reading.specs.ReadingNumbers.{limit, ReadingFault}
+use Rattle.text_loops.specs.Fronts.{readIn}
 use Rattle.text_reading.specs.ReadAnswers.{readAnswer}
 use Rattle.text_reading.proofs.Edges.{a-form, over}
 use Rattle.text_reading.proofs.ReadTexts.{accepted-exactly, refused-exactly, measure-is}
 use Rattle.compare.specs.declared.Comparison.{Comparison}
-use Rattle.compare.specs.WhatChanged.{Otherwise, GoesOn, Differ, FirstDiffer, BothRun, Readable, CompareRow}
+use Rattle.compare.specs.WhatChanged.{Otherwise, GoesOn, Differ, FirstDiffer, BothRun, FormAndLimit, CompareRow}
 use Rattle.compare.specs.WhatChanged.{sameOf}
-use Rattle.compare.specs.Comparing.{shared, comparedIn, comparison, partOf}
-use Rattle.compare.specs.TheoremWords.{SaysWhere, HandsBack, AsRead}
-use Rattle.compare.proofs.Sharing.{elementsOf, octetsOf, elements-append, apart-differ, all-shared, none-otherwise, all-alike}
+use Rattle.compare.specs.Comparing.{shared, comparedIn, comparison, partOf, furtherOn}
+use Rattle.compare.specs.Promises.{ComparePromise}
+use Rattle.compare.specs.TheoremWords.{SaysWhere, HandsBack, LiesIn, AsRead}
+use Rattle.compare.proofs.Sharing.{elementsOf, piecesOf, apart-differ, none-otherwise, all-alike}
 use Rattle.compare.proofs.Sharing.{differ}
-use Rattle.compare.proofs.Spellings.{Beside, beside, its-run}
-use Rattle.compare.proofs.Meetings.{Met, meet, reads-whole, reads-whole′, both-ended, Verdict, verdict, row-differ, row-second-ends, row-first-ends}
-use Rattle.compare.proofs.Exactly.{row-same, met-runs, same-by, readable-is, its-row}
+use Rattle.compare.proofs.Segments.{Beside, beside, its-run}
+use Rattle.compare.proofs.Meetings.{Met, meet, reads-whole, reads-whole′, both-ended, Verdict, verdict}
+use Rattle.compare.proofs.Meetings.{row-differ, row-second-ends, row-first-ends}
+use Rattle.compare.proofs.Exactly.{otherwise-of, row-same, met-runs, same-by, readable-is, its-row}
 
 -- the words of a run's elements are a run of them
 words-run : {f : Form} {s : List ℕ} {ps : List (List ℕ)} {es : List Element} → Run (Spells f) s ps es → RunOf Means (given wordsOf es) es
@@ -59,9 +68,18 @@ hands first second q t p e = (
   ap (λ (x : Comparison). partOf x first second) q ∙ e,
 )
 
+-- So a part that keeps the promise is of that text: its octets, and where it lies.
+pub handed-back : (form : ℕ) (first second : RefT (List ℕ)) {part octets : List ℕ} {text place : ℕ} {at : ℕ × ℕ}
+    → HandsBack (comparison form (first .now) (second .now)) (first .now) (second .now) text place octets
+    → ComparePromise form first second part at → (part ≡ octets) × LiesIn first second text place at
+handed-back form first second h p = (
+  p .0 ∙ h .2,
+  p .1 ∙ ap₂ (λ (t l : ℕ). furtherOn l (pick (eqb t 2) (second .ptr) (first .ptr))) (h .0) (h .1),
+)
+
 -- ---- "Two texts of one form": a form, and both within the limit
 
-module _ (form : ℕ) (first second : List ℕ) {f : Form} (readable : Readable form first second f) where
+module _ (form : ℕ) (first second : List ℕ) {f : Form} (readable : FormAndLimit form first second f) where
   abbrev C : Comparison
   C = comparison form first second
 
@@ -73,15 +91,7 @@ module _ (form : ℕ) (first second : List ℕ) {f : Form} (readable : Readable 
   module _ {ps qs : List (List ℕ)} {es : List Element} (r : Run (Spells f) first ps es) (q : Run (Spells f) second qs es) where
     -- the pieces side by side
     side : (k : ℕ) × Otherwise ps qs k
-    side =
-        let a = beside f r in
-        let b = beside f q in
-        let o = all-shared (a .spellings) (b .spellings) (a .elements ∙ sym (b .elements)) .spelled-otherwise in
-        let k = shared (a .spellings) (b .spellings) .otherwise in (
-          k,
-          subst (λ (x : List (List ℕ)). Otherwise x qs k) (a .octets)
-              (subst (λ (x : List (List ℕ)). Otherwise (octetsOf (a .spellings)) x k) (b .octets) o),
-        )
+    side = (shared (beside f r .segments) (beside f q .segments) .otherwise, otherwise-of f first second r q)
 
     so-many : {k : ℕ} → Otherwise ps qs k → C ≡ sameOf (length es) (length first) (length second) k
     so-many {k} o =
@@ -126,16 +136,16 @@ module _ (form : ℕ) (first second : List ℕ) {f : Form} (readable : Readable 
     two = beside f (q .1)
 
     m : Met f first second
-    m = meet f first second (one .spellings) (two .spellings) (one .reads-so) (two .reads-so)
+    m = meet f first second (one .segments) (two .segments) (one .reads-so) (two .reads-so)
 
     -- what each text means, by where they meet
-    meanings : (es ≡ elementsOf (m .before) ++ elementsOf (m .behind)) × (fs ≡ elementsOf (m .before) ++ elementsOf (m .behind′))
+    meanings : (es ≡ elementsOf (m .before) ++ elementsOf (m .after)) × (fs ≡ elementsOf (m .before) ++ elementsOf (m .after′))
     meanings = (
-      outcomes.one-run (reads f) (r .1) (its-run f first (m .before ++ m .behind) (reads-whole f first second m)) .1
-          ∙ elements-append (m .before) (m .behind),
-      outcomes.one-run (reads f) (q .1) (its-run f second (m .before′ ++ m .behind′) (reads-whole′ f first second m)) .1
-          ∙ elements-append (m .before′) (m .behind′)
-          ∙ ap (λ (l : List Element). l ++ elementsOf (m .behind′)) (sym (m .same-elements)),
+      outcomes.one-run (reads f) (r .1) (its-run f first (m .before ++ m .after) (reads-whole f first second m)) .1
+          ∙ map-append untagged (m .before) (m .after),
+      outcomes.one-run (reads f) (q .1) (its-run f second (m .before′ ++ m .after′) (reads-whole′ f first second m)) .1
+          ∙ map-append untagged (m .before′) (m .after′)
+          ∙ ap (λ (l : List Element). l ++ elementsOf (m .after′)) (sym (m .same-elements)),
     )
 
     -- their fronts mean the same
@@ -167,36 +177,48 @@ module _ (form : ℕ) (first second : List ℕ) {f : Form} (readable : Readable 
       λ e. mean-same (r .1) (subst (λ (l : List Element). Run (Spells f) second (q .0) l) (sym e) (q .1)) .0,
     )
 
-    -- Else the element number is the length of what their meanings share, and both texts before the two places mean that.
-    pub says-where : C .same ≡ 0 → SaysWhere f first second es fs C
-    says-where e = go (verdict f first second m)
+    -- Else the element number is the length of what their meanings share; both texts before the two places mean that, and the elements
+    -- there differ or one text ends there.
+    pub says-where : (es ≡ fs → ⊥) → (C .same ≡ 0) × SaysWhere f first second es fs C
+    says-where n = go (verdict f first second m)
       where
-        go : Verdict f first second m → SaysWhere f first second es fs C
+        go : Verdict f first second m → (C .same ≡ 0) × SaysWhere f first second es fs C
         go (Verdict.ended z w) =
-            let n : _≡_ {A = ℕ} 0 1 =
-            sym e ∙ ap (λ (c : Comparison). c .same) (by (both-ended f first second m (ap length z) (ap length w))) in
-            absurd (omega arith)
+            absurd (n (same-meaning (ap (λ (c : Comparison). c .same)
+            (by (both-ended f first second m (ap length z) (ap length w))))))
         go (Verdict.goes text place k) =
             let place-is = ap (λ (c : Comparison). c .«first_place») (by k) in
-            let place-is′ = ap (λ (c : Comparison). c .«second_place») (by k) in
-            record {
-              shared = elementsOf (m .before);
-              share =
-                  record {
-                    rest = elementsOf (m .behind);
-                    rest′ = elementsOf (m .behind′);
-                    whole = meanings .0;
-                    whole′ = meanings .1;
-                    parted = apart-differ (m .apart);
-                  };
-              element-number = ap (λ (c : Comparison). c .answer .element) (by k);
-              before =
-                  subst (λ (l : List ℕ). RunOf (Spells f) l (elementsOf (m .before)))
-                  (sym (ap₂ take place-is (m .whole) ∙ take-append-seam (m .front) (m .rest))) (fronts .0);
-              before′ =
-                  subst (λ (l : List ℕ). RunOf (Spells f) l (elementsOf (m .before)))
-                  (sym (ap₂ take place-is′ (m .whole′) ∙ take-append-seam (m .front′) (m .rest′))) (fronts .1);
-            }
+            let place-is′ = ap (λ (c : Comparison). c .«second_place») (by k) in (
+              ap (λ (c : Comparison). c .same) (by k),
+              record {
+                common = elementsOf (m .before);
+                start =
+                    record {
+                      rest = elementsOf (m .after);
+                      rest′ = elementsOf (m .after′);
+                      whole = meanings .0;
+                      whole′ = meanings .1;
+                      parted = apart-differ (m .apart);
+                    };
+                element-number = ap (λ (c : Comparison). c .answer .element) (by k);
+                inside = omega (arith, place-is, ap length (m .whole), length-append (m .front) (m .rest));
+                inside′ = omega (arith, place-is′, ap length (m .whole′), length-append (m .front′) (m .rest′));
+                before =
+                    subst (λ (l : List ℕ). RunOf (Spells f) l (elementsOf (m .before)))
+                    (sym (ap₂ take place-is (m .whole) ∙ take-append-seam (m .front) (m .rest))) (fronts .0);
+                before′ =
+                    subst (λ (l : List ℕ). RunOf (Spells f) l (elementsOf (m .before)))
+                    (sym (ap₂ take place-is′ (m .whole′) ∙ take-append-seam (m .front′) (m .rest′))) (fronts .1);
+                there =
+                    subst (λ (l : List ℕ). RunOf (Spells f) l (elementsOf (m .after)))
+                    (sym (ap₂ drop place-is (m .whole) ∙ drop-append-seam (m .front) (m .rest)))
+                    (piecesOf (m .after), its-run f (m .rest) (m .after) (m .reads-after));
+                there′ =
+                    subst (λ (l : List ℕ). RunOf (Spells f) l (elementsOf (m .after′)))
+                    (sym (ap₂ drop place-is′ (m .whole′) ∙ drop-append-seam (m .front′) (m .rest′)))
+                    (piecesOf (m .after′), its-run f (m .rest′) (m .after′) (m .reads-after′));
+              },
+            )
 
     -- "A text means a list of 32-bit words": the same exactly when reading gives the same words.
     pub same-words : (C .same ≡ 1) ↔ (given wordsOf es ≡ given wordsOf fs)
@@ -286,58 +308,52 @@ module _ (form : ℕ) (first second : List ℕ) where
       ap (λ (a : Answer). a .number)
       (measure-is form f q text l ∙ ap (roomyAnswer wordsOf (length text)) (accepted-exactly f text es .1 r))
 
-  row-read : {c : Comparison} → CompareRow form first second c → (c .answer .number ≡ 0 → ⊥) → AsRead form first second c
-  row-read (CompareRow.no-form n) z =
-      record {
-        of-first = λ e. absurd (omega arith);
-        of-second = λ e. absurd (omega arith);
-        after-first = λ e. absurd (omega arith);
-        of-neither = λ e. n;
-        which = omega arith;
-      }
+  -- 11 is no 12, and neither is a text's that is read through or has a fault
+  fault-not-12 : {f : Form} (text : List ℕ) {r n p d : ℕ} → formOf form ≡ Is f → length text ≤ limit → ReadingFault f text r n p d
+      → (0 < readAnswer form text (length text) .number) × (readAnswer form text (length text) .number ≤ 8)
+  fault-not-12 {f} text q l h =
+      let z = reading-number f (h .here) in
+      let e = ap (λ (a : Answer). a .number) (read-fault text q l h) in
+      (omega (arith, z .0), omega (arith, z .1))
+
+  -- a text within the limit
+  not-over : {f : Form} (text : List ℕ) → formOf form ≡ Is f → length text ≤ limit → readAnswer form text (length text) .number ≡ 12 → ⊥
+  not-over {f} text q l e = go (readIn f text) refl
+    where
+      go : (x : Outcome Element) → readIn f text ≡ x → ⊥
+      go (accepted es) z = omega (arith, read-run text q l (accepted-exactly f text es .0 z))
+      go (refusal r n p d) z = omega (arith, fault-not-12 text q l (refused-exactly f text r n p d .0 z) .1)
+
+  row-read : {c : Comparison} → CompareRow form first second c → (c .answer .number ≡ 0 → ⊥)
+      → AsRead form first second (c .answer) (c .text)
+  row-read (CompareRow.no-form n) z = AsRead.no-form n
   row-read (CompareRow.first-over q l) z =
-      record {
-        of-first = λ e. read-over first q l;
-        of-second = λ e. absurd (omega arith);
-        after-first = λ e. absurd (omega arith);
-        of-neither = λ e. absurd (omega arith);
-        which = omega arith;
-      }
+      let e = read-over first q l in
+      subst (λ (a : Answer). AsRead form first second a 1) (sym e) (AsRead.first-over (sym (ap (λ (a : Answer). a .number) e)))
   row-read (CompareRow.second-over q l h) z =
-      record {
-        of-first = λ e. absurd (omega arith);
-        of-second = λ e. read-over second q h;
-        after-first = λ e. inr refl;
-        of-neither = λ e. absurd (omega arith);
-        which = omega arith;
-      }
+      let e = read-over second q h in
+      subst (λ (a : Answer). AsRead form first second a 2) (sym e)
+      (AsRead.second-over (not-over first q l) (sym (ap (λ (a : Answer). a .number) e)))
   row-read (CompareRow.first-refused r h) z =
-      record {
-        of-first = λ e. read-fault first (r .is-form) (r .first-within) h;
-        of-second = λ e. absurd (omega arith);
-        after-first = λ e. absurd (omega arith);
-        of-neither = λ e. absurd (omega arith);
-        which = omega arith;
-      }
+      let b = fault-not-12 first (r .is-form) (r .first-within) h in
+      subst (λ (a : Answer). AsRead form first second a 1) (sym (read-fault first (r .is-form) (r .first-within) h))
+      (AsRead.first-fault (not-over second (r .is-form) (r .second-within)) (b .0) (b .1))
   row-read (CompareRow.second-refused r e h) z =
-      record {
-        of-first = λ w. absurd (omega arith);
-        of-second = λ w. read-fault second (r .is-form) (r .second-within) h;
-        after-first = λ w. inl (read-run first (r .is-form) (r .first-within) e);
-        of-neither = λ w. absurd (omega arith);
-        which = omega arith;
-      }
+      let b = fault-not-12 second (r .is-form) (r .second-within) h in
+      subst (λ (a : Answer). AsRead form first second a 2) (sym (read-fault second (r .is-form) (r .second-within) h))
+      (AsRead.second-fault (read-run first (r .is-form) (r .first-within) e) (b .0) (b .1))
   row-read (CompareRow.mean-same r m) z = absurd (z refl)
   row-read (CompareRow.differ r b d) z = absurd (z refl)
   row-read (CompareRow.second-ends r b d) z = absurd (z refl)
   row-read (CompareRow.first-ends r b d) z = absurd (z refl)
 
-  -- A refusal has the numbers of `read`.
-  pub refused-as-read : (comparison form first second .answer .number ≡ 0 → ⊥) → AsRead form first second (comparison form first second)
+  -- A refusal is by the order, with the numbers of `read`.
+  pub refused-as-read : (comparison form first second .answer .number ≡ 0 → ⊥)
+      → AsRead form first second (comparison form first second .answer) (comparison form first second .text)
   refused-as-read = row-read (its-row form first second)
 
   row-compared : {c : Comparison} → CompareRow form first second c → c .answer .number ≡ 0
-      → (f : Form) × Readable form first second f × BothRun f first second
+      → (f : Form) × FormAndLimit form first second f × BothRun f first second
   row-compared (CompareRow.no-form n) z = absurd (omega arith)
   row-compared (CompareRow.first-over q l) z = absurd (omega arith)
   row-compared (CompareRow.second-over q l h) z = absurd (omega arith)
@@ -354,5 +370,5 @@ module _ (form : ℕ) (first second : List ℕ) where
 
   -- They are compared exactly where both are accepted.
   pub compared-when : (comparison form first second .answer .number ≡ 0)
-      ↔ ((f : Form) × Readable form first second f × BothRun f first second)
+      ↔ ((f : Form) × FormAndLimit form first second f × BothRun f first second)
   compared-when = (row-compared (its-row form first second), λ x. both-accepted form first second (x .1) (x .2 .run) (x .2 .run′))

@@ -17,11 +17,11 @@ use Rattle.element_reading.specs.ElementHead.{headIn, stepAt}
 use Rattle.element_reading.proofs.Reader.{reads}
 use Rattle.text_loops.proofs.Steps.{here}
 use Rattle.compare.specs.declared.Shared.{Shared}
-use Rattle.compare.specs.Comparing.{Spelling, spelt, sameOctets, sameElement, sharedOf, nothingShared, behind, oneShared, shared}
-use Rattle.compare.specs.Walking.{Stands, SizeOf, Means, sharedHeads, sharedHere, sharedBy, sharedIn}
+use Rattle.compare.specs.Comparing.{Segment, segmentsIn, sameOctets, sameElement, sharedOf, nothingShared, andThen, oneShared, shared}
+use Rattle.compare.specs.Walking.{Stands, SizeOf, ReadThrough, sharedHeads, sharedHere, sharedBy, sharedIn}
 use Rattle.compare.proofs.SameTests.{same-octets-are, are-same-octets, other-octets, is-same-element}
-use Rattle.compare.proofs.Sharing.{behind-nothing, nothing-behind, behind-assoc}
-use Rattle.compare.proofs.Spellings.{First, first, at-end}
+use Rattle.compare.proofs.Sharing.{then-nothing, nothing-then, then-assoc}
+use Rattle.compare.proofs.Segments.{First, first, at-end}
 
 -- ---- one element
 
@@ -109,11 +109,11 @@ module _ (f : Form) (s t : List ℕ) (i j : ℕ) where
 
 -- n elements stand before the places i and j, the same in both, k of them spelled otherwise; what both share is that, and what the rests do
 pub record Walked (f : Form) (s t : List ℕ) (n i j k : ℕ) : Type 0 where
-  pub rest : List Spelling
-  pub rest′ : List Spelling
-  pub reads-on : spelt f (drop i s) ≡ accepted rest
-  pub reads-on′ : spelt f (drop j t) ≡ accepted rest′
-  pub whole : sharedIn f s t ≡ behind (sharedOf n i j k) (shared rest rest′)
+  pub rest : List Segment
+  pub rest′ : List Segment
+  pub reads-on : segmentsIn f (drop i s) ≡ accepted rest
+  pub reads-on′ : segmentsIn f (drop j t) ≡ accepted rest′
+  pub whole : sharedIn f s t ≡ andThen (sharedOf n i j k) (shared rest rest′)
   pub inside : i ≤ length s
   pub inside′ : j ≤ length t
   pub few : n ≤ i
@@ -124,16 +124,16 @@ at-most-one true = omega arith
 at-most-one false = omega arith
 
 module _ (f : Form) (s t : List ℕ) where
-  pub walk-start : Means f s × Means f t → Walked f s t 0 0 0 0
+  pub walk-start : ReadThrough f s × ReadThrough f t → Walked f s t 0 0 0 0
   walk-start m =
       let a = m .0 in
       let b = m .1 in
       record {
-        rest = a .spellings;
-        rest′ = b .spellings;
+        rest = a .segments;
+        rest′ = b .segments;
         reads-on = a .reads;
         reads-on′ = b .reads;
-        whole = ap₂ sharedBy (a .reads) (b .reads) ∙ sym (nothing-behind (shared (a .spellings) (b .spellings)));
+        whole = ap₂ sharedBy (a .reads) (b .reads) ∙ sym (nothing-then (shared (a .segments) (b .segments)));
         inside = omega arith;
         inside′ = omega arith;
         few = omega arith;
@@ -142,20 +142,21 @@ module _ (f : Form) (s t : List ℕ) where
 
   module _ {n i j k : ℕ} (was : Walked f s t n i j k) where
     stop : shared (was .rest) (was .rest′) ≡ nothingShared → sharedOf n i j k ≡ sharedIn f s t
-    stop q = sym (was .whole ∙ ap (behind (sharedOf n i j k)) q ∙ behind-nothing (sharedOf n i j k))
+    stop q = sym (was .whole ∙ ap (andThen (sharedOf n i j k)) q ∙ then-nothing (sharedOf n i j k))
 
     -- the first text has ended
     pub first-ended : length s ≤ i → sharedOf n i j k ≡ sharedIn f s t
     first-ended h =
-        stop (ap (λ (xs : List Spelling). shared xs (was .rest′))
+        stop (ap (λ (xs : List Segment). shared xs (was .rest′))
         (at-end f (drop i s) (was .rest) (was .reads-on) (omega (arith, length-drop i s))))
 
     -- the second has
     pub second-ended : length t ≤ j → sharedOf n i j k ≡ sharedIn f s t
     second-ended h =
-        stop (ap (shared (was .rest)) (at-end f (drop j t) (was .rest′) (was .reads-on′) (omega (arith, length-drop j t))) ∙ none-there (was .rest))
+        stop (ap (shared (was .rest)) (at-end f (drop j t) (was .rest′) (was .reads-on′) (omega (arith, length-drop j t)))
+        ∙ none-there (was .rest))
       where
-        none-there : (xs : List Spelling) → shared xs [] ≡ nothingShared
+        none-there : (xs : List Segment) → shared xs [] ≡ nothingShared
         none-there [] = refl
         none-there (x ∷ xs) = refl
 
@@ -182,7 +183,7 @@ module _ (f : Form) (s t : List ℕ) where
 
       on-is : shared (was .rest) (was .rest′)
           ≡ pick (sameElement (one .what) (two .what))
-          (behind (oneShared (take (one .size) (drop i s)) (take (two .size) (drop j t))) (shared (one .rest) (two .rest))) nothingShared
+          (andThen (oneShared (take (one .size) (drop i s)) (take (two .size) (drop j t))) (shared (one .rest) (two .rest))) nothingShared
       on-is = ap₂ shared (one .whole) (two .whole)
 
       -- the two are not the same: nothing more is shared
@@ -193,7 +194,7 @@ module _ (f : Form) (s t : List ℕ) where
           go true e =
               let w : _≡_ {A = ℕ} 1 0 = sym (ap (λ (a : Shared). a .elements) (q ∙ here-is ∙ ap Here e)) ∙ z in absurd (omega arith)
           go false e =
-              stop (on-is ∙ ap (λ (b : Bool). pick b (behind (oneShared (take (one .size) (drop i s)) (take (two .size) (drop j t)))
+              stop (on-is ∙ ap (λ (b : Bool). pick b (andThen (oneShared (take (one .size) (drop i s)) (take (two .size) (drop j t)))
               (shared (one .rest) (two .rest))) nothingShared) e)
 
       -- they are: one element more
@@ -213,14 +214,14 @@ module _ (f : Form) (s t : List ℕ) where
                   rest = one .rest;
                   rest′ = two .rest;
                   reads-on =
-                      ap (λ (a : ℕ). spelt f (drop (i + a) s)) lp ∙ sym (ap (spelt f) (drop-drop (one .size) i s)) ∙ one .reads-on;
+                      ap (λ (a : ℕ). segmentsIn f (drop (i + a) s)) lp ∙ sym (ap (segmentsIn f) (drop-drop (one .size) i s)) ∙ one .reads-on;
                   reads-on′ =
-                      ap (λ (a : ℕ). spelt f (drop (j + a) t)) lq ∙ sym (ap (spelt f) (drop-drop (two .size) j t)) ∙ two .reads-on;
+                      ap (λ (a : ℕ). segmentsIn f (drop (j + a) t)) lq ∙ sym (ap (segmentsIn f) (drop-drop (two .size) j t)) ∙ two .reads-on;
                   whole =
                       was .whole
-                      ∙ ap (behind (sharedOf n i j k))
-                      (on-is ∙ ap (λ (b : Bool). pick b (behind (oneShared p q) (shared (one .rest) (two .rest))) nothingShared) e)
-                      ∙ sym (behind-assoc (sharedOf n i j k) (oneShared p q) (shared (one .rest) (two .rest)));
+                      ∙ ap (andThen (sharedOf n i j k))
+                      (on-is ∙ ap (λ (b : Bool). pick b (andThen (oneShared p q) (shared (one .rest) (two .rest))) nothingShared) e)
+                      ∙ sym (then-assoc (sharedOf n i j k) (oneShared p q) (shared (one .rest) (two .rest)));
                   inside = omega (arith, lp, length-drop i s, one .inside, was .inside);
                   inside′ = omega (arith, lq, length-drop j t, two .inside, was .inside′);
                   few = omega (arith, lp, one .some, was .few);

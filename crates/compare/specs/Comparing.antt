@@ -1,5 +1,5 @@
 -- Proved equal to WhatChanged (proofs/Exactly: compared-exactly): what comparing two texts answers, by the elements of each and the octets
--- that spell them, side by side.
+-- that spell them, side by side. Below, where it is said, to be believed: the part that is handed back.
 -- Assumes nothing.
 use Prim.Native.Nat.{ℕ, _+_}
 use mathlib.Core.Bool.{Bool, true, false}
@@ -48,15 +48,16 @@ sameElement (SequenceOf h n vs) (SequenceOf i m ws) = pick (eqb h i) (pick (eqb 
 
 -- ---- what two texts share, element after element
 
--- the elements of a text, each with the octets that spell it
-abbrev pub Spelling : Type 0
-Spelling = Element × List ℕ
+-- an element, and the octets that spell it
+abbrev pub Segment : Type 0
+Segment = Element × List ℕ
 
 abbrev pub ownOctets : List ℕ → Element → List ℕ
 ownOctets p e = p
 
-abbrev pub spelt : Form → List ℕ → Outcome Spelling
-spelt f text = outcome (tagged ownOctets (headIn f)) text
+-- a text, read: its elements with their octets, or the first refusal
+abbrev pub segmentsIn : Form → List ℕ → Outcome Segment
+segmentsIn f text = outcome (tagged ownOctets (headIn f)) text
 
 abbrev pub sharedOf : ℕ → ℕ → ℕ → ℕ → Shared
 sharedOf n p q k = record { elements = n; first = p; second = q; otherwise = k }
@@ -65,36 +66,40 @@ abbrev pub nothingShared : Shared
 nothingShared = sharedOf 0 0 0 0
 
 -- what is shared, and then more
-abbrev pub behind : Shared → Shared → Shared
-behind a b = sharedOf (a .elements + b .elements) (a .first + b .first) (a .second + b .second) (a .otherwise + b .otherwise)
+abbrev pub andThen : Shared → Shared → Shared
+andThen a b = sharedOf (a .elements + b .elements) (a .first + b .first) (a .second + b .second) (a .otherwise + b .otherwise)
 
 -- the same element in both: one, with the octets that it takes in each, and whether they are other ones
 abbrev pub oneShared : List ℕ → List ℕ → Shared
 oneShared p q = sharedOf 1 (length p) (length q) (pick (sameOctets p q) 0 1)
 
 -- what both share from their beginning on, up to where they differ or one of them ends
-abbrev pub shared : List Spelling → List Spelling → Shared
+abbrev pub shared : List Segment → List Segment → Shared
 shared [] ys = nothingShared
 shared (x ∷ xs) [] = nothingShared
 shared (x ∷ xs) (y ∷ ys) =
-    let more = shared xs ys in pick (sameElement (x .0) (y .0)) (behind (oneShared (x .1) (y .1)) more) nothingShared
+    let more = shared xs ys in pick (sameElement (x .0) (y .0)) (andThen (oneShared (x .1) (y .1)) more) nothingShared
 
 -- ---- the answer
 
--- of two accepted texts, so long, by what they share: where the first goes on the part is its own, else the second's if that goes on
-abbrev pub toldBy : Shared → ℕ → ℕ → Comparison
-toldBy s first second =
-    pick (ltb (s .first) first) (differAt (s .elements) (s .first) (s .second) 1 (s .first))
-    (pick (ltb (s .second) second) (differAt (s .elements) (s .first) (s .second) 2 (s .second))
+-- of two accepted texts, by what they share, and whether the first goes on behind it, and the second
+abbrev pub toldAs : Shared → Bool → Bool → Comparison
+toldAs s first-goes-on second-goes-on =
+    pick first-goes-on (differAt (s .elements) (s .first) (s .second) 1 (s .first))
+    (pick second-goes-on (differAt (s .elements) (s .first) (s .second) 2 (s .second))
     (sameOf (s .elements) (s .first) (s .second) (s .otherwise)))
 
-abbrev pub byReadings : ℕ → ℕ → Outcome Spelling → Outcome Spelling → Comparison
+-- of texts of these lengths
+abbrev pub toldBy : Shared → ℕ → ℕ → Comparison
+toldBy s first second = toldAs s (ltb (s .first) first) (ltb (s .second) second)
+
+abbrev pub byReadings : ℕ → ℕ → Outcome Segment → Outcome Segment → Comparison
 byReadings first second (refusal r n p d) y = refusedBy (answer r n p (countOf r d)) 1 first
 byReadings first second (accepted xs) (refusal r n p d) = refusedBy (answer r n p (countOf r d)) 2 first
 byReadings first second (accepted xs) (accepted ys) = toldBy (shared xs ys) first second
 
 abbrev pub comparedIn : Form → List ℕ → List ℕ → Comparison
-comparedIn f first second = byReadings (length first) (length second) (spelt f first) (spelt f second)
+comparedIn f first second = byReadings (length first) (length second) (segmentsIn f first) (segmentsIn f second)
 
 unfoldable pub comparison : ℕ → List ℕ → List ℕ → Comparison
 comparison form first second =
@@ -102,11 +107,13 @@ comparison form first second =
     (λ f. within-limit first (refusedBy (bare 12) 1 (length first))
     (within-limit second (refusedBy (bare 12) 2 (length first)) (comparedIn f first second)))
 
--- the part that is handed back: its octets,
+-- ---- to be believed: the part that is handed back, of the text and from the place that the numbers say, to that text's end
+
+-- its octets,
 abbrev pub partOf : Comparison → List ℕ → List ℕ → List ℕ
 partOf c first second = pick (eqb (c .«tail_text») 2) (drop (c .«tail_place») second) (drop (c .«tail_place») first)
 
--- and where it lies: so many octets behind where its text does, which is a block of memory and an offset there
+-- and where it lies: so many octets further on than its text, which lies in a block of memory, from an offset on
 abbrev pub furtherOn : ℕ → ℕ × ℕ → ℕ × ℕ
 furtherOn place at = (at .0, place + at .1)
 

@@ -1,40 +1,46 @@
--- To be believed: the words in which the theorems of proofs/Theorems are stated, beside those of WhatChanged.
+-- To be believed: the words in which the theorems of proofs/Theorems, Exchanging and Joining are stated, beside those of WhatChanged.
 -- Assumes nothing.
-use Prim.Native.Nat.{ℕ, _+_, _≤_}
+use Prim.Native.Nat.{ℕ, _+_, _≤_, _<_}
 use mathlib.Core.Path.{_≡_}
 use mathlib.Core.Logic.{_↔_, _⊎_}
 use mathlib.Core.List.{List, _∷_, _++_}
 use lib.Dec.{eqb}
-use lib.ListN.{length, take}
+use lib.ListN.{length, take, drop}
+use denote.Ref.{RefT}
 use Rattle.run.specs.Choice.{pick}
 use Rattle.run.specs.Grammar.{RunOf}
-use Rattle.run.specs.Answers.{answer}
+use Rattle.run.specs.declared.Answer.{Answer}
+use Rattle.run.specs.Answers.{answer, bare}
 use Rattle.sorts.specs.declared.Form.{Form}
 use Rattle.sorts.specs.Forms.{NoForm}
 use Rattle.element_words.specs.declared.Element.{Element}
 use Rattle.element_reading.specs.Grammar.{Spells}
 use Rattle.text_reading.specs.ReadAnswers.{readAnswer}
 use Rattle.compare.specs.declared.Comparison.{Comparison}
-use Rattle.compare.specs.Comparing.{partOf}
+use Rattle.compare.specs.Comparing.{partOf, furtherOn}
 
 -- ---- what two meanings share: the elements that both begin with, as far as they go
 
-pub record Share (es fs shared : List Element) : Type 0 where
+pub record CommonStart (es fs common : List Element) : Type 0 where
   pub rest : List Element
   pub rest′ : List Element
-  pub whole : es ≡ shared ++ rest
-  pub whole′ : fs ≡ shared ++ rest′
+  pub whole : es ≡ common ++ rest
+  pub whole′ : fs ≡ common ++ rest′
   -- the next two, where there are two, differ
   pub parted : (e g : Element) (t u : List Element) → rest ≡ e ∷ t → rest′ ≡ g ∷ u → e ≡ g → ⊥
 
--- what a comparison of two texts says where they do not mean the same: how many elements their meanings share, and the places in both texts
--- before which these stand
+-- what a comparison of two texts says where they do not mean the same: how many elements their meanings have in common, and the places in
+-- both texts before which these stand, and behind which the rest does
 pub record SaysWhere (f : Form) (first second : List ℕ) (es fs : List Element) (c : Comparison) : Type 0 where
-  pub shared : List Element
-  pub share : Share es fs shared
-  pub element-number : c .answer .element ≡ length shared
-  pub before : RunOf (Spells f) (take (c .«first_place») first) shared
-  pub before′ : RunOf (Spells f) (take (c .«second_place») second) shared
+  pub common : List Element
+  pub start : CommonStart es fs common
+  pub element-number : c .answer .element ≡ length common
+  pub inside : c .«first_place» ≤ length first
+  pub inside′ : c .«second_place» ≤ length second
+  pub before : RunOf (Spells f) (take (c .«first_place») first) common
+  pub before′ : RunOf (Spells f) (take (c .«second_place») second) common
+  pub there : RunOf (Spells f) (drop (c .«first_place») first) (start .rest)
+  pub there′ : RunOf (Spells f) (drop (c .«second_place») second) (start .rest′)
 
 -- ---- the part that is handed back: of which text, from which place on, and its octets, which go to that text's end
 
@@ -42,15 +48,26 @@ abbrev pub HandsBack : Comparison → List ℕ → List ℕ → ℕ → ℕ → 
 HandsBack c first second text place part =
     (c .«tail_text» ≡ text) × (c .«tail_place» ≡ place) × (partOf c first second ≡ part)
 
--- ---- a refusal: of which text, and its four numbers as reading that text with room enough gives them
+-- where such a part lies, of two lent texts: so many octets further on than the one that it is of
+abbrev pub LiesIn : RefT (List ℕ) → RefT (List ℕ) → ℕ → ℕ → ℕ × ℕ → Type 0
+LiesIn first second text place at = at ≡ furtherOn place (pick (eqb text 2) (second .ptr) (first .ptr))
 
-pub record AsRead (form : ℕ) (first second : List ℕ) (c : Comparison) : Type 0 where
-  pub of-first : c .text ≡ 1 → c .answer ≡ readAnswer form first (length first)
-  pub of-second : c .text ≡ 2 → c .answer ≡ readAnswer form second (length second)
-  -- the second's is given only where the first is read
-  pub after-first : c .text ≡ 2 → (readAnswer form first (length first) .number ≡ 0) ⊎ (c .answer .number ≡ 12)
-  pub of-neither : c .text ≡ 0 → NoForm form
-  pub which : c .text ≤ 2
+-- ---- a refusal, by what reading each text by itself with room enough answers: the four numbers, and which text it was
+
+module _ (form : ℕ) (first second : List ℕ) where
+  abbrev One : Answer
+  One = readAnswer form first (length first)
+
+  abbrev Two : Answer
+  Two = readAnswer form second (length second)
+
+  -- "11 and 12 as before, then the first text's reading refusal, then the second's, with which text it was"
+  pub data AsRead : Answer → ℕ → Type 0 where
+    no-form : NoForm form → AsRead (bare 11) 0
+    first-over : One .number ≡ 12 → AsRead One 1
+    second-over : (One .number ≡ 12 → ⊥) → Two .number ≡ 12 → AsRead Two 2
+    first-fault : (Two .number ≡ 12 → ⊥) → 0 < One .number → One .number ≤ 8 → AsRead One 1
+    second-fault : One .number ≡ 0 → 0 < Two .number → Two .number ≤ 8 → AsRead Two 2
 
 -- ---- the texts exchanged
 
@@ -65,9 +82,11 @@ pub record Exchanged (first second : List ℕ) (c d : Comparison) : Type 0 where
   pub otherwise : d .otherwise ≡ c .otherwise
   pub first-place : d .«first_place» ≡ c .«second_place»
   pub second-place : d .«second_place» ≡ c .«first_place»
-  -- the tail moves to the other text exactly where one ends first, and is then the same octets
-  pub tail-moves : (d .«tail_text» ≡ c .«tail_text» → ⊥) ↔ OneEnds first second c
-  pub same-tail : OneEnds first second c → partOf d second first ≡ partOf c first second
+  -- the part is of the other one of the two lent texts exactly where one ends first, and is then the same octets of the same text;
+  -- else it is of the one that is lent first
+  pub tail-moves : (c .«tail_text» + d .«tail_text» ≡ 3) ↔ OneEnds first second c
+  pub same-tail : OneEnds first second c → (d .«tail_place» ≡ c .«tail_place») × (partOf d second first ≡ partOf c first second)
+  pub tail-stays : (OneEnds first second c → ⊥) → (c .«tail_text» ≡ 1) × (d .«tail_text» ≡ 1)
 
 -- ---- both behind one text, of n elements and p octets: element and places moved up
 

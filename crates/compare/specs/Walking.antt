@@ -10,7 +10,7 @@ use Rattle.sorts.specs.declared.Form.{Form}
 use Rattle.element_words.specs.declared.Element.{Element}
 use Rattle.element_reading.specs.ElementHead.{headIn}
 use Rattle.compare.specs.declared.Shared.{Shared}
-use Rattle.compare.specs.Comparing.{Spelling, sameElement, spelt, oneShared, nothingShared, shared}
+use Rattle.compare.specs.Comparing.{Segment, sameElement, segmentsIn, oneShared, nothingShared, shared}
 
 -- an element stands at the head
 pub record Stands (f : Form) (s : List ℕ) : Type 0 where
@@ -23,10 +23,10 @@ pub record SizeOf (f : Form) (s : List ℕ) (size : ℕ) : Type 0 where
   pub what : Element
   pub here : headIn f s ≡ element what size
 
--- a text is accepted
-pub record Means (f : Form) (s : List ℕ) : Type 0 where
-  pub spellings : List Spelling
-  pub reads : spelt f s ≡ accepted spellings
+-- a text is accepted, up to its end
+pub record ReadThrough (f : Form) (s : List ℕ) : Type 0 where
+  pub segments : List Segment
+  pub reads : segmentsIn f s ≡ accepted segments
 
 -- what is shared at the heads: the first element of each, where they are the same
 abbrev pub sharedHeads : Head Element → Head Element → List ℕ → List ℕ → Shared
@@ -40,10 +40,10 @@ abbrev pub sharedHere : Form → List ℕ → List ℕ → Shared
 sharedHere f s t = sharedHeads (headIn f s) (headIn f t) s t
 
 -- what two accepted texts share
-abbrev pub sharedBy : Outcome Spelling → Outcome Spelling → Shared
+abbrev pub sharedBy : Outcome Segment → Outcome Segment → Shared
 sharedBy (refusal r n p d) y = nothingShared
 sharedBy (accepted xs) (refusal r n p d) = nothingShared
 sharedBy (accepted xs) (accepted ys) = shared xs ys
 
 abbrev pub sharedIn : Form → List ℕ → List ℕ → Shared
-sharedIn f first second = sharedBy (spelt f first) (spelt f second)
+sharedIn f first second = sharedBy (segmentsIn f first) (segmentsIn f second)

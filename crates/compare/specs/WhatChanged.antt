@@ -49,23 +49,23 @@ pub record Differ (f : Form) (s t : List ℕ) : Type 0 where
   pub not-same : one .what ≡ other .what → ⊥
 
 -- "the element at which their meanings first differ, and the octet place in each": n elements stand before it, the same in both texts,
--- which take the octets before the places p and q; `Behind` says of what is left of each how they go on
-pub record FirstDiffer (f : Form) (Behind : List ℕ → List ℕ → Type 0) (first second : List ℕ) (n p q : ℕ) : Type 0 where
-  pub shared : List Element
+-- which take the octets before the places p and q; `Rests` says of what is left of each how they go on
+pub record FirstDiffer (f : Form) (Rests : List ℕ → List ℕ → Type 0) (first second : List ℕ) (n p q : ℕ) : Type 0 where
+  pub common : List Element
   pub front : List ℕ
   pub rest : List ℕ
   pub front′ : List ℕ
   pub rest′ : List ℕ
   pub whole : first ≡ front ++ rest
   pub whole′ : second ≡ front′ ++ rest′
-  pub run : RunOf (Spells f) front shared
-  pub run′ : RunOf (Spells f) front′ shared
-  pub behind : Behind rest rest′
-  pub element-number : n ≡ length shared
+  pub run : RunOf (Spells f) front common
+  pub run′ : RunOf (Spells f) front′ common
+  pub rests : Rests rest rest′
+  pub element-number : n ≡ length common
   pub first-place : p ≡ length front
   pub second-place : q ≡ length front′
 
--- both texts are runs of elements: after them what is left of each is one too, so nothing more is asked of it
+-- both texts are runs of elements, up to their ends: a fault behind the difference would be a refusal
 pub record BothRun (f : Form) (first second : List ℕ) : Type 0 where
   pub meaning : List Element
   pub meaning′ : List Element
@@ -119,8 +119,8 @@ differAt n p q text place =
 -- ---- "Refusals: 11 and 12 as before, then the first text's reading refusal, then the second's, with which text it was."
 
 module _ (form : ℕ) (first second : List ℕ) where
-  -- the form is one, and both texts are within the limit
-  pub record Readable (f : Form) : Type 0 where
+  -- neither 11 nor 12: the form is one, and both texts are within the limit
+  pub record FormAndLimit (f : Form) : Type 0 where
     pub is-form : formOf form ≡ Is f
     pub first-within : length first ≤ limit
     pub second-within : length second ≤ limit
@@ -130,18 +130,18 @@ module _ (form : ℕ) (first second : List ℕ) where
     first-over : {f : Form} → formOf form ≡ Is f → limit < length first → CompareRow (refusedBy (bare 12) 1 (length first))
     second-over : {f : Form} → formOf form ≡ Is f → length first ≤ limit → limit < length second
         → CompareRow (refusedBy (bare 12) 2 (length first))
-    first-refused : {f : Form} {r n p d : ℕ} → Readable f → ReadingFault f first r n p d
+    first-refused : {f : Form} {r n p d : ℕ} → FormAndLimit f → ReadingFault f first r n p d
         → CompareRow (refusedBy (answer r n p (countOf r d)) 1 (length first))
-    second-refused : {f : Form} {es : List Element} {r n p d : ℕ} → Readable f → RunOf (Spells f) first es → ReadingFault f second r n p d
-        → CompareRow (refusedBy (answer r n p (countOf r d)) 2 (length first))
+    second-refused : {f : Form} {es : List Element} {r n p d : ℕ} → FormAndLimit f → RunOf (Spells f) first es
+        → ReadingFault f second r n p d → CompareRow (refusedBy (answer r n p (countOf r d)) 2 (length first))
     -- "If both mean the same .. it is the first's empty end"
-    mean-same : {f : Form} {n k : ℕ} → Readable f → MeanSame f first second n k
+    mean-same : {f : Form} {n k : ℕ} → FormAndLimit f → MeanSame f first second n k
         → CompareRow (sameOf n (length first) (length second) k)
     -- "if they differ before either ends, the first text's part from the differing element"
-    differ : {f : Form} {n p q : ℕ} → Readable f → BothRun f first second → FirstDiffer f (Differ f) first second n p q
+    differ : {f : Form} {n p q : ℕ} → FormAndLimit f → BothRun f first second → FirstDiffer f (Differ f) first second n p q
         → CompareRow (differAt n p q 1 p)
     -- "Where one text ends first, hand back the surplus tail of whichever text goes on."
-    second-ends : {f : Form} {n p q : ℕ} → Readable f → BothRun f first second
+    second-ends : {f : Form} {n p q : ℕ} → FormAndLimit f → BothRun f first second
         → FirstDiffer f (λ rest rest′. GoesOn f rest × (rest′ ≡ [])) first second n p q → CompareRow (differAt n p q 1 p)
-    first-ends : {f : Form} {n p q : ℕ} → Readable f → BothRun f first second
+    first-ends : {f : Form} {n p q : ℕ} → FormAndLimit f → BothRun f first second
         → FirstDiffer f (λ rest rest′. (rest ≡ []) × GoesOn f rest′) first second n p q → CompareRow (differAt n p q 2 q)

@@ -10,9 +10,9 @@ ghost use Prim.Native.Nat.{_+_, _≤_, _<_};
 ghost use lib.ListN.{length, take, drop};
 ghost use denote.Ref.{ptr};
 ghost use Rattle.lent_tables.specs.CodeTables.{codeTable};
-ghost use Rattle.compare.specs.WhatChanged.{refusedBy};
+ghost use Rattle.compare.specs.WhatChanged.{refusedBy, differAt};
 ghost use Rattle.compare.specs.Comparing.{sameValues, sameElement, sameOctets, toldBy, comparedIn};
-ghost use Rattle.compare.specs.Walking.{Stands, SizeOf, Means, sharedHere, sharedIn};
+ghost use Rattle.compare.specs.Walking.{Stands, SizeOf, ReadThrough, sharedHere, sharedIn};
 ghost use Rattle.compare.specs.Promises.{ComparedPromise, ComparePromise};
 
 // What comparing two texts says.
@@ -24,7 +24,7 @@ pub struct Comparison {
     pub text: usize,
     // 1 where both mean the same, else 0
     pub same: usize,
-    // the octet place in each where the meanings first differ; where they do not, each text's length
+    // the octet place in each where the meanings first differ; where they do not, each text's length; 0 on a refusal
     pub first_place: usize,
     pub second_place: usize,
     // of texts that mean the same, the number of elements spelled otherwise
@@ -152,8 +152,8 @@ fn size_at(form: Form, codes: &[u16; 256], text: &[u8], at: usize) -> usize
     next - at
 }
 
-// What both texts share at a place of each: one element, or nothing where the two that stand there differ. An element that the same octets
-// spell in both is not read, but for its size, and a spacing character's is known by the lent table.
+// What both texts share at a place of each: one element, or nothing where the two that stand there differ. Of an element that the same
+// octets spell in both only the size is asked for, and of a spacing character not even that.
 fn shared_at(
     form: Form,
     codes: &[u16; 256],
@@ -208,7 +208,7 @@ fn shared_at(
 // The walk over two accepted texts, up to where their meanings part or one of them ends.
 fn walk(form: Form, codes: &[u16; 256], first: &[u8], second: &[u8]) -> Shared
     requires { ⌜ now codes ≡ codeTable form ⌝ }
-    requires { ⌜ Means form (now first) × Means form (now second) ⌝ }
+    requires { ⌜ ReadThrough form (now first) × ReadThrough form (now second) ⌝ }
     ensures { λ r. ⌜ r ≡ sharedIn form (now (first .entry)) (now (second .entry)) ⌝ }
 {
     let mut n = 0;
@@ -262,11 +262,11 @@ fn refused_by(answer: Answer, text: usize, end: usize) -> Comparison
     }
 }
 
-// What two accepted texts of these lengths come to, by what they share.
-fn told(shared: Shared, first: usize, second: usize) -> Comparison
-    ensures { λ r. ⌜ r ≡ toldBy shared first second ⌝ }
+// They first differ where what they share ends; the part that is handed back is of a text, from a place on.
+fn differ_at(shared: Shared, text: usize, place: usize) -> Comparison
+    ensures { λ r. ⌜ r ≡ differAt (shared .elements) (shared .first) (shared .second) text place ⌝ }
 {
-    let mut c = Comparison {
+    Comparison {
         answer: Answer {
             number: 0,
             element: shared.elements,
@@ -278,17 +278,23 @@ fn told(shared: Shared, first: usize, second: usize) -> Comparison
         first_place: shared.first,
         second_place: shared.second,
         otherwise: 0,
-        tail_text: 1,
-        tail_place: shared.first,
-    };
+        tail_text: text,
+        tail_place: place,
+    }
+}
+
+// What two accepted texts of these lengths come to, by what they share. 02: "hand back the surplus tail of whichever text goes on .. if they
+// differ before either ends, the first text's part": wherever the first goes on, it is the first's.
+fn told(shared: Shared, first: usize, second: usize) -> Comparison
+    ensures { λ r. ⌜ r ≡ toldBy shared first second ⌝ }
+{
     if shared.first < first {
-        return c;
+        return differ_at(shared, 1, shared.first);
     }
     if shared.second < second {
-        c.tail_text = 2;
-        c.tail_place = shared.second;
-        return c;
+        return differ_at(shared, 2, shared.second);
     }
+    let mut c = differ_at(shared, 1, shared.first);
     c.same = 1;
     c.otherwise = shared.otherwise;
     c

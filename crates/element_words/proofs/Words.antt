@@ -10,7 +10,7 @@ use lib.Seq.{take-all, take-append-seam}
 use lib.Dec.{ltb, eqb, lit<, lit≤}
 use borrow.Author.Tests.{lt-ltb, le-ltb, ltb-true, ltb-false, eq-eqb, eqb-true}
 use Rattle.run.specs.Choice.{pick}
-use Rattle.run.proofs.Choices.{pick-case, both-true}
+use Rattle.run.proofs.Choices.{pick-case, both-true, true-both}
 use Rattle.run.specs.Grammar.{Begins, Reads}
 use Rattle.run.specs.Head.{Head, element, refused, none}
 use Rattle.sequence_reading.specs.declared.Values.{Values}
@@ -37,9 +37,6 @@ kept-values n v = min-by n (listOf v) refl (ltb n 8) refl
 
 pub part-count : (n k : ℕ) (l : List ℕ) (v : Values) → n ≡ min k 8 → l ≡ listOf v → n ≡ length (take n l)
 part-count n k l v e q = omega (arith, length-take n l, ap length q)
-
-true-both : (a b : Bool) → a ≡ true → b ≡ true → pick a b false ≡ true
-true-both a b p q = rw (p, q)
 
 pub sequence-head : (w : ℕ) (ws vs : List ℕ) → sequencesFrom ≤ w → take (w % 0x100) ws ≡ vs → isSequence w vs ≡ true
     → wordHead (w ∷ ws) ≡ element (sequenceElement (sequenceOf w vs)) (w % 0x100 + 1)

@@ -56,7 +56,8 @@ mark-of f o Control q l h = absurd (omega arith)
 mark-of f o SequenceStart q l h = absurd (omega arith)
 mark-of f o (Refused k) q l h = absurd (omega arith)
 
-pub mark-code : (f : Form) (o : ℕ) → noCharacter ≤ codeIn (codeTable f) o → codeIn (codeTable f) o < neither → (m : ℕ) × (sortIn f o ≡ Mark m)
+pub mark-code : (f : Form) (o : ℕ) → noCharacter ≤ codeIn (codeTable f) o → codeIn (codeTable f) o < neither
+    → (m : ℕ) × (sortIn f o ≡ Mark m)
 mark-code f o l h =
     let past : 256 ≤ o → ⊥ = λ k. let e = no-octet f o k in omega arith in
     let e = at-octet f o (omega (arith, past)) in

@@ -19,6 +19,10 @@ pub both-true : (t u : Bool) → pick t u false ≡ true → (t ≡ true) × (u 
 both-true true u h = (refl, h)
 both-true false u h = let z : _≡_ {A = ℕ} 0 1 = cc in absurd (omega arith)
 
+-- and back
+pub true-both : (t u : Bool) → t ≡ true → u ≡ true → pick t u false ≡ true
+true-both t u p q = rw (p, q)
+
 -- a number that passes the test of a range is in it
 pub within-range : (lo hi n : ℕ) → within lo hi n ≡ true → (lo ≤ n) × (n ≤ hi)
 within-range lo hi n e =

@@ -1,9 +1,10 @@
 -- The part begins within its text (tail-inside), and is the rest of it, where that lies (kept).
 use mathlib.Core.Path.{sym, ap, _∙_, subst}
-use lib.ListN.{length, drop}
+use lib.ListN.{drop}
 use Rattle.run.proofs.Onward.{rest-is}
 use Rattle.compare.specs.Comparing.{furtherOn}
-use Rattle.compare.proofs.Answered.{TailInside, tail-inside, first's, second's, kept}
+use Rattle.compare.proofs.Answered.{first's, second's, kept}
+use Rattle.compare.proofs.Exactly.{TailInside, tail-inside}
 use borrow.Author.Needs.{needs}
 use Rattle.compare.proofs.compare.Statement.{statement}
 use Rattle.compare.proofs.compare.Tie as tie
@@ -11,12 +12,12 @@ use Rattle.compare.proofs.compare.Tie as tie
 -- where the part begins
 abbrev Inside : tie.After-compared → Type 0
 Inside c =
-    let a = c .before .before .before .args in TailInside (length (a .first .now)) (length (a .second .now)) (c .compared .result)
+    let a = c .before .before .before .args in TailInside (a .form) (a .first .now) (a .second .now) (c .compared .result)
 
 inside : (c : tie.After-compared) → Inside c
 inside c =
     let a = c .before .before .before .args in
-    subst (TailInside (length (a .first .now)) (length (a .second .now))) (sym (c .compared .ensures))
+    subst (TailInside (a .form) (a .first .now) (a .second .now)) (sym (c .compared .ensures))
     (tail-inside (a .form) (a .first .now) (a .second .now))
 
 compared-requires : tie.Need-compared-requires

@@ -1,16 +1,16 @@
--- Too few octets are left of the second text, or the loop knows what is left of the test (Left).
+-- Too few octets are left of the second text, or the loop knows what is left of the test (TestLeft).
 use Prim.Native.Nat.{_-_, _≤_}
 use mathlib.Core.Path.{sym, ap}
 use native.Mathlib.Omega.{arith}
 use lib.ListN.{length, take, drop, length-drop, length-take}
 use lib.Seq.{length-take-le}
 use borrow.Author.Needs.{needs}
-use Rattle.compare.proofs.SameTests.{other-octets, Left, left-start, left-end, left-stop, left-more}
+use Rattle.compare.proofs.SameTests.{other-octets, TestLeft, left-start, left-end, left-stop, left-more}
 use Rattle.compare.proofs.same_octets.Statement.{statement}
 use Rattle.compare.proofs.same_octets.Tie as tie
 
 abbrev Inv-loop : tie.InvT-loop
-Inv-loop first i second j size k₀ k = (k ≤ size) × Left first second i j size k
+Inv-loop first i second j size k₀ k = (k ≤ size) × TestLeft first second i j size k
 
 abbrev μ-loop : tie.MeasureT-loop
 μ-loop first i second j size k₀ k = size - k

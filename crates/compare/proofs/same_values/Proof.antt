@@ -17,27 +17,36 @@ returns-2 c =
 
 returns-3 : tie.Need-returns-3
 returns-3 c =
-    let a = c .before .before .before .before .before .before .before .before .before .args in
+    let s6 = c .before .before .before .before .before .before in
+    let a = s6 .before .before .before .args in
     other-values (a .a) (a .b) (λ q. c .if3 .taken (ap (λ (v : Values). v .v2) q))
 
 returns-4 : tie.Need-returns-4
 returns-4 c =
-    let a = c .before .before .before .before .before .before .before .before .before .before .before .before .args in
+    let s6 = c .before .before .before .before .before .before in
+    let a = s6 .before .before .before .before .before .before .args in
     other-values (a .a) (a .b) (λ q. c .if4 .taken (ap (λ (v : Values). v .v3) q))
 
 returns-5 : tie.Need-returns-5
 returns-5 c =
-    let a = c .before .before .before .before .before .before .before .before .before .before .before .before .before .before .before .args in
+    let s6 = c .before .before .before .before .before .before in
+    let s12 = s6 .before .before .before .before .before .before in
+    let a = s12 .before .before .before .args in
     other-values (a .a) (a .b) (λ q. c .if5 .taken (ap (λ (v : Values). v .v4) q))
 
 returns-6 : tie.Need-returns-6
 returns-6 c =
-    let a = c .before .before .before .before .before .before .before .before .before .before .before .before .before .before .before .before .before .before .args in
+    let s6 = c .before .before .before .before .before .before in
+    let s12 = s6 .before .before .before .before .before .before in
+    let a = s12 .before .before .before .before .before .before .args in
     other-values (a .a) (a .b) (λ q. c .if6 .taken (ap (λ (v : Values). v .v5) q))
 
 returns-7 : tie.Need-returns-7
 returns-7 c =
-    let a = c .before .before .before .before .before .before .before .before .before .before .before .before .before .before .before .before .before .before .before .before .before .args in
+    let s6 = c .before .before .before .before .before .before in
+    let s12 = s6 .before .before .before .before .before .before in
+    let s18 = s12 .before .before .before .before .before .before in
+    let a = s18 .before .before .before .args in
     other-values (a .a) (a .b) (λ q. c .if7 .taken (ap (λ (v : Values). v .v6) q))
 
 returns-8 : tie.Need-returns-8

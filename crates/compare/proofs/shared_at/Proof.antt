@@ -87,7 +87,8 @@ returns-5 c =
     let s12 = s9 .before .before .before in
     let a = s12 .before .before .before .before .before .before .args in
     differ-at (a .form) (a .first .now) (a .second .now) (a .i) (a .j) (s12 .size-at .ensures)
-    (sym (s9 .element-at .ensures .0) ∙ s3 .before .before .before .before .step .given .1) (sym (s3 .before .before .element-at2 .ensures .0) ∙ s3 .other .given .1)
+    (sym (s9 .element-at .ensures .0) ∙ s3 .before .before .before .before .step .given .1)
+    (sym (s3 .before .before .element-at2 .ensures .0) ∙ s3 .other .given .1)
     (c .before .same-element .ensures) (not-true _ (c .if4 .taken))
 
 -- the same element, of which the octets are others
