@@ -158,7 +158,7 @@ struct oak_fed {
  *   - They differ before either ends: the part is the first text's, from the differing element on.
  *   - The second ends first (second_place is its length): what the first has more. tail_text is 1.
  *   - The first ends first (first_place is its length): what the second has more. tail_text is 2, and in no other case.
- *   - Both mean the same, or one is refused: nothing, at the end of the first.
+ *   - Both mean the same, or the call is refused: nothing, at the end of the first.
  */
 struct oak_comparison {
     size_t number, element, place, count;

@@ -193,7 +193,7 @@ def change(asked: Comparing, said: model.Comparison, names: Sequence[str]) -> st
     longer, shorter = names if said.tail_text == 1 else names[::-1]
     more = model.part_of(said, first, second)
     shown = differing(form, said.tail_place, first if said.tail_text == 1 else second, longer)
-    return f"{longer} goes on where {shorter} ends, with element {element}: {shown}, the first of {len(more)} octets more"
+    return f"{longer} goes on where {shorter} ends, with element {element}: {shown}, {len(more)} octets more in all"
 
 
 def expected_comparison(asked: Comparing, names: Sequence[str]) -> Ending:

@@ -262,7 +262,8 @@ def cut_off(form: int) -> list[bytes]:
 
 
 def refused(form: int, chance: random.Random) -> Iterator[Texts]:
-    """Each refusal in the first text, in the second and in both, with another one there too; and far behind a difference."""
+    """Each refusal of reading in the first text, in the second and in both, with another one there too; and far behind a difference. (12
+    takes over a million octets, and is tried by library.py and examples.py.)"""
     refusals = [*map(bytes, texts.refused_octets(form)), *cut_off(form)]
     for octets in refusals * 2:
         before, after, text = (spelt(form, some_elements(form, chance.randrange(4), chance), chance) for _ in range(3))

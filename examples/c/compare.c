@@ -82,7 +82,7 @@ static void say_tail(uint32_t form, struct text longer, struct text shorter, siz
 {
     printf("%s goes on where %s ends, with element %zu:", longer.name, shorter.name, element);
     say_element(form, longer, place);
-    printf(", the first of %zu octets more\n", longer.length - place);
+    printf(", %zu octets more in all\n", longer.length - place);
 }
 
 /* What changed, in words. */

@@ -21,6 +21,11 @@ use Rattle.compare.proofs.Segments.{beside}
 use Rattle.compare.proofs.Meetings.{read-length}
 use Rattle.compare.proofs.Exactly.{readable-is}
 
+-- 1 is no 2
+one-only : ((_≡_ {A = ℕ} 1 1) × (_≡_ {A = ℕ} 1 2)) ⊎ ((_≡_ {A = ℕ} 1 2) × (_≡_ {A = ℕ} 1 1)) → ⊥
+one-only (inl e) = omega (arith, e .1)
+one-only (inr e) = omega (arith, e .0)
+
 -- by which of the two goes on
 module _ (first second : List ℕ) (s : Shared) (l : s .first ≤ length first) (m : s .second ≤ length second) where
   turned : (a b : Bool) → ltb (s .first) (length first) ≡ a → ltb (s .second) (length second) ≡ b
@@ -34,7 +39,7 @@ module _ (first second : List ℕ) (s : Shared) (l : s .first ≤ length first) 
         otherwise = refl;
         first-place = refl;
         second-place = refl;
-        tail-moves = (λ n. absurd (omega arith), λ e. absurd (neither h k (e .1)));
+        tail-moves = (λ n. absurd (one-only n), λ e. absurd (neither h k (e .1)));
         same-tail = λ e. absurd (neither h k (e .1));
         tail-stays = λ n. (refl, refl);
       }
@@ -50,7 +55,7 @@ module _ (first second : List ℕ) (s : Shared) (l : s .first ≤ length first) 
         otherwise = refl;
         first-place = refl;
         second-place = refl;
-        tail-moves = (λ n. (refl, inr (omega (arith, k, m))), λ e. refl);
+        tail-moves = (λ n. (refl, inr (omega (arith, k, m))), λ e. inl (refl, refl));
         same-tail = λ e. (refl, refl);
         tail-stays = λ n. absurd (n (refl, inr (omega (arith, k, m))));
       }
@@ -62,7 +67,7 @@ module _ (first second : List ℕ) (s : Shared) (l : s .first ≤ length first) 
         otherwise = refl;
         first-place = refl;
         second-place = refl;
-        tail-moves = (λ n. (refl, inl (omega (arith, h, l))), λ e. refl);
+        tail-moves = (λ n. (refl, inl (omega (arith, h, l))), λ e. inr (refl, refl));
         same-tail = λ e. (refl, refl);
         tail-stays = λ n. absurd (n (refl, inl (omega (arith, h, l))));
       }
@@ -73,7 +78,7 @@ module _ (first second : List ℕ) (s : Shared) (l : s .first ≤ length first) 
         otherwise = refl;
         first-place = refl;
         second-place = refl;
-        tail-moves = (λ n. absurd (omega arith), λ e. absurd (omega (arith, e .0)));
+        tail-moves = (λ n. absurd (one-only n), λ e. absurd (omega (arith, e .0)));
         same-tail = λ e. absurd (omega (arith, e .0));
         tail-stays = λ n. (refl, refl);
       }

@@ -10,3 +10,4 @@ pub mod Theorems
 pub mod OneAnswer
 pub mod Exchanging
 pub mod Joining
+pub mod Refusals

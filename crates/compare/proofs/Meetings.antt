@@ -16,8 +16,9 @@ use Rattle.element_reading.specs.ElementHead.{headIn}
 use Rattle.element_reading.proofs.Reader.{reads}
 use Rattle.compare.specs.declared.Shared.{Shared}
 use Rattle.compare.specs.WhatChanged.{GoesOn, Differ, FirstDiffer, BothRun, sameOf, differAt}
-use Rattle.compare.specs.Comparing.{Segment, segmentsIn, andThen, shared, toldBy, byReadings, comparedIn}
-use Rattle.compare.proofs.Sharing.{elementsOf, octetCount, shared-on, all-shared, apart-nothing, then-nothing}
+use Rattle.compare.specs.Comparing.{Segment, segmentsIn, shared, toldBy, byReadings, comparedIn}
+use Rattle.compare.specs.Walking.{ReadThrough}
+use Rattle.compare.proofs.Sharing.{elementsOf, octetCount, all-shared, shared-parted}
 use Rattle.compare.proofs.Sharing.{Apart, both-end, first-goes-on, second-goes-on, differ, parted}
 use Rattle.compare.proofs.Segments.{SpellsSegment, Beside, segments-read, segments-exactly, own-length, beside, first, at-end}
 use Rattle.compare.proofs.Answered.{told-first, told-second, told-same}
@@ -68,9 +69,17 @@ module _ (f : Form) (s t : List ℕ) (m : Met f s t) where
 
   pub met-shared : shared (m .before ++ m .after) (m .before′ ++ m .after′) ≡ Before
   met-shared =
-      shared-on (m .before) (m .before′) (m .after) (m .after′) (m .same-elements)
-      ∙ ap (andThen Before) (apart-nothing (m .apart))
-      ∙ then-nothing Before
+      shared-parted
+      (record {
+        front = m .before;
+        front′ = m .before′;
+        rest = m .after;
+        rest′ = m .after′;
+        whole = refl;
+        whole′ = refl;
+        same-elements = m .same-elements;
+        apart = m .apart;
+      })
 
   pub met-elements : Before .elements ≡ length (elementsOf (m .before))
   met-elements = all-shared (m .before) (m .before′) (m .same-elements) .many
@@ -184,19 +193,12 @@ verdict f s t m = go (m .after) (m .after′) (m .reads-after) (m .reads-after�
 -- ---- and so do two that first differ somewhere
 
 -- what is left of an accepted text behind a run is accepted
-pub record RestRead (f : Form) (rest : List ℕ) (xs before : List Segment) : Type 0 where
-  pub segments : List Segment
-  pub reads-so : segmentsIn f rest ≡ accepted segments
-  pub whole : xs ≡ before ++ segments
-
 pub rest-of : (f : Form) (front rest : List ℕ) (before xs : List Segment) → segmentsIn f front ≡ accepted before
-    → segmentsIn f (front ++ rest) ≡ accepted xs → RestRead f rest xs before
+    → segmentsIn f (front ++ rest) ≡ accepted xs → ReadThrough f rest
 rest-of f front rest before xs q r = go (segmentsIn f rest) refl
   where
-    go : (x : Outcome Segment) → segmentsIn f rest ≡ x → RestRead f rest xs before
-    go (accepted ys) e =
-        let z = sym r ∙ outcomes.joined (segments-read f) front rest before q ∙ ap (join before (length front)) e in
-        record { segments = ys; reads-so = e; whole = cc }
+    go : (x : Outcome Segment) → segmentsIn f rest ≡ x → ReadThrough f rest
+    go (accepted ys) e = record { segments = ys; reads = e }
     go (refusal a b c d) e =
         let z = sym r ∙ outcomes.joined (segments-read f) front rest before q ∙ ap (join before (length front)) e in
         let w : _≡_ {A = ℕ} 0 1 = cc in
@@ -254,12 +256,12 @@ module _ (f : Form) {Rests : List ℕ → List ℕ → Type 0} (s t : List ℕ) 
   pub whole-read′ : Beside f t (b .run′ .0) (b .meaning′)
   whole-read′ = beside f (b .run′ .1)
 
-  pub rest-read : RestRead f (d .rest) (whole-read .segments) (front-read .segments)
+  pub rest-read : ReadThrough f (d .rest)
   rest-read =
       rest-of f (d .front) (d .rest) (front-read .segments) (whole-read .segments) (front-read .reads-so)
       (ap (segmentsIn f) (sym (d .whole)) ∙ whole-read .reads-so)
 
-  pub rest-read′ : RestRead f (d .rest′) (whole-read′ .segments) (front-read′ .segments)
+  pub rest-read′ : ReadThrough f (d .rest′)
   rest-read′ =
       rest-of f (d .front′) (d .rest′) (front-read′ .segments) (whole-read′ .segments) (front-read′ .reads-so)
       (ap (segmentsIn f) (sym (d .whole′)) ∙ whole-read′ .reads-so)
@@ -279,8 +281,8 @@ module _ (f : Form) {Rests : List ℕ → List ℕ → Type 0} (s t : List ℕ) 
         after′ = rest-read′ .segments;
         reads-before = front-read .reads-so;
         reads-before′ = front-read′ .reads-so;
-        reads-after = rest-read .reads-so;
-        reads-after′ = rest-read′ .reads-so;
+        reads-after = rest-read .reads;
+        reads-after′ = rest-read′ .reads;
         same-elements = front-read .elements ∙ sym (front-read′ .elements);
         apart = a;
       }
@@ -305,8 +307,8 @@ module _ (f : Form) (s t : List ℕ) {n p q : ℕ} (b : BothRun f s t) where
   row-differ d =
       let l = rest-read f s t b d in
       let r = rest-read′ f s t b d in
-      let x = beginning f (d .rest) (l .segments) (l .reads-so) (d .rests .one) in
-      let y = beginning f (d .rest′) (r .segments) (r .reads-so) (d .rests .other) in
+      let x = beginning f (d .rest) (l .segments) (l .reads) (d .rests .one) in
+      let y = beginning f (d .rest′) (r .segments) (r .reads) (d .rests .other) in
       let m = met-by f s t b d (apart-as (x .whole) (y .whole) (differ (d .rests .not-same))) in
       first-on f s t m (x .some) ∙ differ-numbers f s t b d 1 (length (d .front)) p (sym (d .first-place))
 
@@ -316,8 +318,8 @@ module _ (f : Form) (s t : List ℕ) {n p q : ℕ} (b : BothRun f s t) where
   row-second-ends d =
       let l = rest-read f s t b d in
       let r = rest-read′ f s t b d in
-      let x = beginning f (d .rest) (l .segments) (l .reads-so) (d .rests .0) in
-      let y = at-end f (d .rest′) (r .segments) (r .reads-so) (ap length (d .rests .1)) in
+      let x = beginning f (d .rest) (l .segments) (l .reads) (d .rests .0) in
+      let y = at-end f (d .rest′) (r .segments) (r .reads) (ap length (d .rests .1)) in
       let m = met-by f s t b d (apart-as (x .whole) y first-goes-on) in
       first-on f s t m (x .some) ∙ differ-numbers f s t b d 1 (length (d .front)) p (sym (d .first-place))
 
@@ -327,8 +329,8 @@ module _ (f : Form) (s t : List ℕ) {n p q : ℕ} (b : BothRun f s t) where
   row-first-ends d =
       let l = rest-read f s t b d in
       let r = rest-read′ f s t b d in
-      let x = at-end f (d .rest) (l .segments) (l .reads-so) (ap length (d .rests .0)) in
-      let y = beginning f (d .rest′) (r .segments) (r .reads-so) (d .rests .1) in
+      let x = at-end f (d .rest) (l .segments) (l .reads) (ap length (d .rests .0)) in
+      let y = beginning f (d .rest′) (r .segments) (r .reads) (d .rests .1) in
       let m = met-by f s t b d (apart-as x (y .whole) second-goes-on) in
       second-on f s t m (ap length (d .rests .0)) (y .some)
       ∙ differ-numbers f s t b d 2 (length (d .front′)) q (sym (d .second-place))

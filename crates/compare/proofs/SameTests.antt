@@ -10,16 +10,11 @@ use lib.ListN.{length, take, drop, getD}
 use lib.Seq.{drop-cons}
 use borrow.Author.Tests.{eqb-true, eq-eqb, ne-eqb}
 use Rattle.run.specs.Choice.{pick}
-use Rattle.run.proofs.Choices.{both-true, true-both}
+use Rattle.run.proofs.Choices.{both-true, true-both, is-false}
 use Rattle.sequence_reading.specs.declared.Values.{Values}
 use Rattle.element_words.specs.declared.Element.{Element}
 use Rattle.element_words.specs.declared.Element.the-variants.{One, Sequence as SequenceOf}
 use Rattle.compare.specs.Comparing.{sameOctets, sameValues, sameElement}
-
--- a test that does not hold fails
-pub fails : (a : Bool) → (a ≡ true → ⊥) → a ≡ false
-fails true h = absurd (h refl)
-fails false h = refl
 
 -- two tests that hold of the same are the same
 pub alike-tests : (a b : Bool) → (a ≡ true → b ≡ true) → (b ≡ true → a ≡ true) → a ≡ b
@@ -41,7 +36,7 @@ are-same-octets [] = refl
 are-same-octets (o ∷ s) = true-both (eqb o o) (sameOctets s s) (eq-eqb o o refl) (are-same-octets s)
 
 pub other-octets : (s t : List ℕ) → (s ≡ t → ⊥) → sameOctets s t ≡ false
-other-octets s t h = fails (sameOctets s t) (λ e. h (same-octets-are s t e))
+other-octets s t h = is-false (sameOctets s t) (λ e. h (same-octets-are s t e))
 
 pub octets-exchanged : (s t : List ℕ) → sameOctets s t ≡ sameOctets t s
 octets-exchanged s t =
@@ -128,7 +123,7 @@ are-same-values a =
 
 -- one value that differs, and the last one
 pub other-values : (a b : Values) → (a ≡ b → ⊥) → false ≡ sameValues a b
-other-values a b h = sym (fails (sameValues a b) (λ e. h (same-values-are a b e)))
+other-values a b h = sym (is-false (sameValues a b) (λ e. h (same-values-are a b e)))
 
 pub last-value : (a b : Values) → a .v0 ≡ b .v0 → a .v1 ≡ b .v1 → a .v2 ≡ b .v2 → a .v3 ≡ b .v3 → a .v4 ≡ b .v4 → a .v5 ≡ b .v5
     → a .v6 ≡ b .v6 → eqb (a .v7) (b .v7) ≡ sameValues a b
@@ -162,7 +157,7 @@ is-same-element (SequenceOf h n vs) =
     true-both (eqb h h) _ (eq-eqb h h refl) (true-both (eqb n n) _ (eq-eqb n n refl) (are-same-values vs))
 
 pub other-element : (a b : Element) → (a ≡ b → ⊥) → sameElement a b ≡ false
-other-element a b h = fails (sameElement a b) (λ e. h (same-element-is a b e))
+other-element a b h = is-false (sameElement a b) (λ e. h (same-element-is a b e))
 
 -- two of one word, two sequences with the same head and count, and one of each
 pub one-word : {a b : Element} {v w : ℕ} → a ≡ One v → b ≡ One w → eqb v w ≡ sameElement a b

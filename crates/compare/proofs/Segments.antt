@@ -47,7 +47,6 @@ module _ (f : Form) where
   -- A run of elements, with the octets of each.
   pub record Beside (s : List ℕ) (ps : List (List ℕ)) (es : List Element) : Type 0 where
     pub segments : List Segment
-    pub run : Run (SpellsSegment f) s ps segments
     pub elements : elementsOf segments ≡ es
     pub octets : piecesOf segments ≡ ps
     pub reads-so : segmentsIn f s ≡ accepted segments
@@ -57,7 +56,6 @@ module _ (f : Form) where
       let t = run-tagged ownOctets r in
       record {
         segments = t .0;
-        run = t .1;
         elements = t .2;
         octets = own-pieces (t .1);
         reads-so = segments-exactly s (t .0) .1 (ps, t .1);

@@ -50,14 +50,14 @@ module _ (f : Form) (text : List ℕ) (at : ℕ) where
         }
 
     -- a mark that begins an element: its follower is listed
-    listed : (m : ℕ) (x : Found) (s : Sort) (e : Element) (k : ℕ) → pairHead false 1 x s ≡ element e k → k ≡ 2
-    listed m (Char c) s e k q = cc
-    listed m Nothing s e k q = let z : _≡_ {A = ℕ} 0 1 = cc in absurd (omega arith)
+    listed : (x : Found) (s : Sort) (e : Element) (k : ℕ) → pairHead false 1 x s ≡ element e k → k ≡ 2
+    listed (Char c) s e k q = cc
+    listed Nothing s e k q = let z : _≡_ {A = ℕ} 0 1 = cc in absurd (omega arith)
 
     followed : (m : ℕ) (t : List ℕ) (e : Element) (k : ℕ) → followerHead f m false 1 t ≡ element e k → k ≡ 2
     unfolding followerHead
     followed m [] e k q = let z : _≡_ {A = ℕ} 0 1 = cc in absurd (omega arith)
-    followed m (l ∷ t) e k q = listed m (squareOf m l) (sortIn f l) e k q
+    followed m (l ∷ t) e k q = listed (squareOf m l) (sortIn f l) e k q
 
     pub two-octets : (c : ℕ) → c ≡ codeIn (codeTable f) (getD text at 0) → noCharacter ≤ c → c < neither → SizeOf f (drop at text) 2
     unfolding headIn

@@ -2,7 +2,7 @@
 -- `comparison`, which the contracts cite (`ComparedPromise`, `ComparePromise`); that it is document 02's rows is proofs/Exactly,
 -- compared-exactly.
 -- Assumes nothing.
-use Prim.Native.Nat.{ℕ, _+_, _≤_, _<_}
+use Prim.Native.Nat.{ℕ, _+_}
 use mathlib.Core.Path.{_≡_, refl, sym, ap, ap₂, _∙_, subst}
 use mathlib.Core.Logic.{_↔_}
 use mathlib.Core.List.{List, [], _∷_, _++_, map-append}
@@ -12,16 +12,12 @@ use lib.ListN.{length, take, drop, length-append}
 use denote.Ref.{RefT}
 use lib.Seq.{take-append-seam, drop-append-seam, drop-length}
 use Rattle.run.specs.Choice.{pick}
-use Rattle.run.specs.Head.{Outcome, accepted, refusal}
 use Rattle.run.specs.Tagged.{untagged}
 use Rattle.run.specs.Grammar.{Run, done, more, RunOf}
-use Rattle.run.specs.declared.Answer.{Answer}
-use Rattle.run.specs.Answers.{answer, bare, countOf, given, roomyAnswer}
+use Rattle.run.specs.Answers.{answer, given}
 use Rattle.run.proofs.Outcomes as outcomes
 use Rattle.run.proofs.Outcomes.{run-by}
 use Rattle.sorts.specs.declared.Form.{Form}
-use Rattle.sorts.specs.declared.FormFound.the-variants.{Is}
-use Rattle.sorts.specs.Forms.{formOf}
 use Rattle.element_words.specs.declared.Element.{Element}
 use Rattle.element_words.specs.Words.{wordsOf, Proper, Means, means}
 use Rattle.element_words.proofs.Words.{words-read}
@@ -30,17 +26,12 @@ use Rattle.element_reading.proofs.Reader.{reads}
 use Rattle.element_spelling.specs.ElementOctets.{CanonicalElement, Held}
 use Rattle.element_spelling.proofs.Writer.{canonical-spells, canonical-proper, read-held}
 use Rattle.element_reading.proofs.Places.{reading-number}
-use Rattle.text_reading.specs.ReadingNumbers.{limit, ReadingFault}
-use Rattle.text_loops.specs.Fronts.{readIn}
-use Rattle.text_reading.specs.ReadAnswers.{readAnswer}
-use Rattle.text_reading.proofs.Edges.{a-form, over}
-use Rattle.text_reading.proofs.ReadTexts.{accepted-exactly, refused-exactly, measure-is}
 use Rattle.compare.specs.declared.Comparison.{Comparison}
 use Rattle.compare.specs.WhatChanged.{Otherwise, GoesOn, Differ, FirstDiffer, BothRun, FormAndLimit, CompareRow}
 use Rattle.compare.specs.WhatChanged.{sameOf}
 use Rattle.compare.specs.Comparing.{shared, comparedIn, comparison, partOf, furtherOn}
 use Rattle.compare.specs.Promises.{ComparePromise}
-use Rattle.compare.specs.TheoremWords.{SaysWhere, HandsBack, LiesIn, AsRead}
+use Rattle.compare.specs.TheoremWords.{SaysWhere, HandsBack, LiesIn}
 use Rattle.compare.proofs.Sharing.{elementsOf, piecesOf, apart-differ, none-otherwise, all-alike}
 use Rattle.compare.proofs.Sharing.{differ}
 use Rattle.compare.proofs.Segments.{Beside, beside, its-run}
@@ -93,17 +84,21 @@ module _ (form : ℕ) (first second : List ℕ) {f : Form} (readable : FormAndLi
     side : (k : ℕ) × Otherwise ps qs k
     side = (shared (beside f r .segments) (beside f q .segments) .otherwise, otherwise-of f first second r q)
 
-    so-many : {k : ℕ} → Otherwise ps qs k → C ≡ sameOf (length es) (length first) (length second) k
-    so-many {k} o =
+    -- All eleven numbers of two texts that mean the same.
+    pub mean-same : {k : ℕ} → Otherwise ps qs k → C ≡ sameOf (length es) (length first) (length second) k
+    mean-same {k} o =
         by
         (row-same f first second
         (record { elements = es; pieces = ps; pieces′ = qs; run = r; run′ = q; spelled-otherwise = o; number = refl }))
 
+    said-same : C .same ≡ 1
+    said-same = ap (λ (c : Comparison). c .same) (mean-same (side .1))
+
     -- The number of elements spelled otherwise is that of the elements whose pieces, in the one way that each text is a run, differ.
     pub otherwise-exactly : (k : ℕ) → (C .otherwise ≡ k) ↔ Otherwise ps qs k
     otherwise-exactly k = (
-      λ e. subst (Otherwise ps qs) (sym (ap (λ (c : Comparison). c .otherwise) (so-many (side .1))) ∙ e) (side .1),
-      λ o. ap (λ (c : Comparison). c .otherwise) (so-many o),
+      λ e. subst (Otherwise ps qs) (sym (ap (λ (c : Comparison). c .otherwise) (mean-same (side .1))) ∙ e) (side .1),
+      λ o. ap (λ (c : Comparison). c .otherwise) (mean-same o),
     )
 
     -- It is 0 exactly where they are the same octets.
@@ -114,17 +109,6 @@ module _ (form : ℕ) (first second : List ℕ) {f : Form} (readable : FormAndLi
           (subst (λ (x : List (List ℕ)). Otherwise ps x 0)
           (outcomes.one-run (reads f) r (subst (λ (l : List ℕ). Run (Spells f) l qs es) (sym e) q) .0) (all-alike ps)),
     )
-
-    -- All numbers of two texts that mean the same.
-    pub mean-same : (C .same ≡ 1) × (C .answer ≡ answer 0 (length es) 0 0) × (C .«first_place» ≡ length first)
-        × (C .«second_place» ≡ length second)
-    mean-same =
-        let z = so-many (side .1) in (
-          ap (λ (c : Comparison). c .same) z,
-          ap (λ (c : Comparison). c .answer) z,
-          ap (λ (c : Comparison). c .«first_place») z,
-          ap (λ (c : Comparison). c .«second_place») z,
-        )
 
   -- ======== "say the element at which their meanings first differ, and the octet place in each"
 
@@ -174,7 +158,7 @@ module _ (form : ℕ) (first second : List ℕ) {f : Form} (readable : FormAndLi
     pub same-exactly : (C .same ≡ 1) ↔ (es ≡ fs)
     same-exactly = (
       same-meaning,
-      λ e. mean-same (r .1) (subst (λ (l : List Element). Run (Spells f) second (q .0) l) (sym e) (q .1)) .0,
+      λ e. said-same (r .1) (subst (λ (l : List Element). Run (Spells f) second (q .0) l) (sym e) (q .1)),
     )
 
     -- Else the element number is the length of what their meanings share; both texts before the two places mean that, and the elements
@@ -255,7 +239,7 @@ module _ (form : ℕ) (first second : List ℕ) {f : Form} (readable : FormAndLi
 
   -- A text and its canonical spelling mean the same.
   pub canonical-same : {es : List Element} → RunOf (Spells f) first es → RunOf (CanonicalElement f) second es → C .same ≡ 1
-  canonical-same r c = mean-same (r .1) (run-by (λ p e k. canonical-spells f k) (c .1)) .0
+  canonical-same r c = said-same (r .1) (run-by (λ p e k. canonical-spells f k) (c .1))
 
 -- ======== "on a refusal, it is the first's empty end", and so it is where both mean the same
 
@@ -289,68 +273,6 @@ module _ (form : ℕ) (first second : List ℕ) where
 
   pub part-same : comparison form first second .same ≡ 1 → HandsBack (comparison form first second) first second 1 (length first) []
   part-same = row-same-part (its-row form first second)
-
-  -- ======== "Refusals: 11 and 12 as before, then the first text's reading refusal, then the second's, with which text it was."
-
-  -- reading a text with room enough
-  read-over : {f : Form} (text : List ℕ) → formOf form ≡ Is f → limit < length text → bare 12 ≡ readAnswer form text (length text)
-  unfolding readAnswer
-  read-over text q l = a-form _ _ _ _ _ q (over text _ _ l)
-
-  read-fault : {f : Form} (text : List ℕ) {r n p d : ℕ} → formOf form ≡ Is f → length text ≤ limit → ReadingFault f text r n p d
-      → answer r n p (countOf r d) ≡ readAnswer form text (length text)
-  read-fault {f} text {r} {n} {p} {d} q l h =
-      sym (measure-is form f q text l ∙ ap (roomyAnswer wordsOf (length text)) (refused-exactly f text r n p d .1 h))
-
-  read-run : {f : Form} (text : List ℕ) {es : List Element} → formOf form ≡ Is f → length text ≤ limit → RunOf (Spells f) text es
-      → readAnswer form text (length text) .number ≡ 0
-  read-run {f} text {es} q l r =
-      ap (λ (a : Answer). a .number)
-      (measure-is form f q text l ∙ ap (roomyAnswer wordsOf (length text)) (accepted-exactly f text es .1 r))
-
-  -- 11 is no 12, and neither is a text's that is read through or has a fault
-  fault-not-12 : {f : Form} (text : List ℕ) {r n p d : ℕ} → formOf form ≡ Is f → length text ≤ limit → ReadingFault f text r n p d
-      → (0 < readAnswer form text (length text) .number) × (readAnswer form text (length text) .number ≤ 8)
-  fault-not-12 {f} text q l h =
-      let z = reading-number f (h .here) in
-      let e = ap (λ (a : Answer). a .number) (read-fault text q l h) in
-      (omega (arith, z .0), omega (arith, z .1))
-
-  -- a text within the limit
-  not-over : {f : Form} (text : List ℕ) → formOf form ≡ Is f → length text ≤ limit → readAnswer form text (length text) .number ≡ 12 → ⊥
-  not-over {f} text q l e = go (readIn f text) refl
-    where
-      go : (x : Outcome Element) → readIn f text ≡ x → ⊥
-      go (accepted es) z = omega (arith, read-run text q l (accepted-exactly f text es .0 z))
-      go (refusal r n p d) z = omega (arith, fault-not-12 text q l (refused-exactly f text r n p d .0 z) .1)
-
-  row-read : {c : Comparison} → CompareRow form first second c → (c .answer .number ≡ 0 → ⊥)
-      → AsRead form first second (c .answer) (c .text)
-  row-read (CompareRow.no-form n) z = AsRead.no-form n
-  row-read (CompareRow.first-over q l) z =
-      let e = read-over first q l in
-      subst (λ (a : Answer). AsRead form first second a 1) (sym e) (AsRead.first-over (sym (ap (λ (a : Answer). a .number) e)))
-  row-read (CompareRow.second-over q l h) z =
-      let e = read-over second q h in
-      subst (λ (a : Answer). AsRead form first second a 2) (sym e)
-      (AsRead.second-over (not-over first q l) (sym (ap (λ (a : Answer). a .number) e)))
-  row-read (CompareRow.first-refused r h) z =
-      let b = fault-not-12 first (r .is-form) (r .first-within) h in
-      subst (λ (a : Answer). AsRead form first second a 1) (sym (read-fault first (r .is-form) (r .first-within) h))
-      (AsRead.first-fault (not-over second (r .is-form) (r .second-within)) (b .0) (b .1))
-  row-read (CompareRow.second-refused r e h) z =
-      let b = fault-not-12 second (r .is-form) (r .second-within) h in
-      subst (λ (a : Answer). AsRead form first second a 2) (sym (read-fault second (r .is-form) (r .second-within) h))
-      (AsRead.second-fault (read-run first (r .is-form) (r .first-within) e) (b .0) (b .1))
-  row-read (CompareRow.mean-same r m) z = absurd (z refl)
-  row-read (CompareRow.differ r b d) z = absurd (z refl)
-  row-read (CompareRow.second-ends r b d) z = absurd (z refl)
-  row-read (CompareRow.first-ends r b d) z = absurd (z refl)
-
-  -- A refusal is by the order, with the numbers of `read`.
-  pub refused-as-read : (comparison form first second .answer .number ≡ 0 → ⊥)
-      → AsRead form first second (comparison form first second .answer) (comparison form first second .text)
-  refused-as-read = row-read (its-row form first second)
 
   row-compared : {c : Comparison} → CompareRow form first second c → c .answer .number ≡ 0
       → (f : Form) × FormAndLimit form first second f × BothRun f first second

@@ -179,7 +179,7 @@ module _ (f : Form) (s t : List ℕ) where
 
       -- what is shared there, and what both share from there on, by the test of the two elements
       here-is : sharedHere f (drop i s) (drop j t) ≡ Here (sameElement (one .what) (two .what))
-      here-is = ap₂ (λ (a b : Head Element). sharedHeads a b (drop i s) (drop j t)) (one .here) (two .here)
+      here-is = here-by f (drop i s) (drop j t) (one .here) (two .here)
 
       on-is : shared (was .rest) (was .rest′)
           ≡ pick (sameElement (one .what) (two .what))

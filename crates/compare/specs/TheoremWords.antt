@@ -1,4 +1,5 @@
--- To be believed: the words in which the theorems of proofs/Theorems, Exchanging and Joining are stated, beside those of WhatChanged.
+-- To be believed: the words in which the theorems of proofs/Theorems, Refusals, Exchanging and Joining are stated, beside those of
+-- WhatChanged. `readAnswer` is proved to be document 01's table (`text` Demands: read-exactly).
 -- Assumes nothing.
 use Prim.Native.Nat.{ℕ, _+_, _≤_, _<_}
 use mathlib.Core.Path.{_≡_}
@@ -55,19 +56,19 @@ LiesIn first second text place at = at ≡ furtherOn place (pick (eqb text 2) (s
 -- ---- a refusal, by what reading each text by itself with room enough answers: the four numbers, and which text it was
 
 module _ (form : ℕ) (first second : List ℕ) where
-  abbrev One : Answer
-  One = readAnswer form first (length first)
+  abbrev OfFirst : Answer
+  OfFirst = readAnswer form first (length first)
 
-  abbrev Two : Answer
-  Two = readAnswer form second (length second)
+  abbrev OfSecond : Answer
+  OfSecond = readAnswer form second (length second)
 
   -- "11 and 12 as before, then the first text's reading refusal, then the second's, with which text it was"
   pub data AsRead : Answer → ℕ → Type 0 where
     no-form : NoForm form → AsRead (bare 11) 0
-    first-over : One .number ≡ 12 → AsRead One 1
-    second-over : (One .number ≡ 12 → ⊥) → Two .number ≡ 12 → AsRead Two 2
-    first-fault : (Two .number ≡ 12 → ⊥) → 0 < One .number → One .number ≤ 8 → AsRead One 1
-    second-fault : One .number ≡ 0 → 0 < Two .number → Two .number ≤ 8 → AsRead Two 2
+    first-over : OfFirst .number ≡ 12 → AsRead OfFirst 1
+    second-over : OfFirst .number ≤ 8 → OfSecond .number ≡ 12 → AsRead OfSecond 2
+    first-fault : 0 < OfFirst .number → OfFirst .number ≤ 8 → OfSecond .number ≤ 8 → AsRead OfFirst 1
+    second-fault : OfFirst .number ≡ 0 → 0 < OfSecond .number → OfSecond .number ≤ 8 → AsRead OfSecond 2
 
 -- ---- the texts exchanged
 
@@ -84,7 +85,7 @@ pub record Exchanged (first second : List ℕ) (c d : Comparison) : Type 0 where
   pub second-place : d .«second_place» ≡ c .«first_place»
   -- the part is of the other one of the two lent texts exactly where one ends first, and is then the same octets of the same text;
   -- else it is of the one that is lent first
-  pub tail-moves : (c .«tail_text» + d .«tail_text» ≡ 3) ↔ OneEnds first second c
+  pub tail-moves : (((c .«tail_text» ≡ 1) × (d .«tail_text» ≡ 2)) ⊎ ((c .«tail_text» ≡ 2) × (d .«tail_text» ≡ 1))) ↔ OneEnds first second c
   pub same-tail : OneEnds first second c → (d .«tail_place» ≡ c .«tail_place») × (partOf d second first ≡ partOf c first second)
   pub tail-stays : (OneEnds first second c → ⊥) → (c .«tail_text» ≡ 1) × (d .«tail_text» ≡ 1)
 
@@ -103,7 +104,7 @@ toldUp n p c =
       «tail_place» = p + c .«tail_place»;
     }
 
--- of a refusal, the places of the refused text
+-- of a refusal, the places of the refused text, and the end of the first
 abbrev pub refusedUp : ℕ → ℕ → Comparison → Comparison
 refusedUp n p c =
     record {

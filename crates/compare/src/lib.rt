@@ -262,7 +262,7 @@ fn refused_by(answer: Answer, text: usize, end: usize) -> Comparison
     }
 }
 
-// They first differ where what they share ends; the part that is handed back is of a text, from a place on.
+// What is said of two texts that differ behind what they share; the part that is handed back is of a text, from a place on.
 fn differ_at(shared: Shared, text: usize, place: usize) -> Comparison
     ensures { λ r. ⌜ r ≡ differAt (shared .elements) (shared .first) (shared .second) text place ⌝ }
 {

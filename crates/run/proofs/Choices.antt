@@ -23,6 +23,11 @@ both-true false u h = let z : _≡_ {A = ℕ} 0 1 = cc in absurd (omega arith)
 pub true-both : (t u : Bool) → t ≡ true → u ≡ true → pick t u false ≡ true
 true-both t u p q = rw (p, q)
 
+-- a test that does not hold fails
+pub is-false : (t : Bool) → (t ≡ true → ⊥) → t ≡ false
+is-false true n = absurd (n refl)
+is-false false n = refl
+
 -- a number that passes the test of a range is in it
 pub within-range : (lo hi n : ℕ) → within lo hi n ≡ true → (lo ≤ n) × (n ≤ hi)
 within-range lo hi n e =

@@ -9,6 +9,7 @@ use native.Mathlib.Omega.{arith}
 use lib.ListN.{length, getD, drop, length-append, drop-of-length-le}
 use lib.Seq.{drop-cons}
 use Rattle.run.specs.Put.{Put, whatFits}
+use Rattle.run.proofs.Choices.{is-false}
 use Rattle.run.proofs.Puts.{put-none, put-both, put-as, put-length, put-one, all-fit, none-fits}
 use Rattle.sorts.specs.Forms.{CSI}
 use Rattle.sequence_reading.specs.Grammar.{Sequence, Small}
@@ -18,12 +19,8 @@ use Rattle.sequence_spelling.proofs.Exactly.{rest-size, spell-size, siz
 
 -- ---- what can be spelt
 
-false-of : (t : Bool) → (t ≡ true → ⊥) → t ≡ false
-false-of true h = absurd (h refl)
-false-of false h = refl
-
 pub not-fine : (q : Sequence) → (Fine q → ⊥) → false ≡ isFine q
-not-fine q h = sym (false-of (isFine q) (λ e. h (fine-test q .0 e)))
+not-fine q h = sym (is-false (isFine q) (λ e. h (fine-test q .0 e)))
 
 pub small-at : (vs : List ℕ) (k : ℕ) → Small vs → k < length vs → getD vs k 0 ≤ 999
 small-at [] k s h = absurd (omega arith)

@@ -11,7 +11,7 @@ use native.Mathlib.Omega.{arith}
 use lib.Dec.{eqb, leb}
 use borrow.Author.Tests.{eqb-true, leb-true, eq-eqb, le-leb}
 use Rattle.run.specs.Choice.{pick, oneOf}
-use Rattle.run.proofs.Choices.{both-true, one-of}
+use Rattle.run.proofs.Choices.{both-true, is-false, one-of}
 use Rattle.run.proofs.Members.{at-member, member-left, member-right}
 use Rattle.sorts.specs.declared.Form.{Form}
 use Rattle.sorts.specs.declared.Form.the-variants.{Eight, Seven, Basic}
@@ -191,10 +191,6 @@ told-high : (a : Alphabet) (o : ℕ) → tooHigh a o ≡ true → TooHigh a o
 told-high a o e =
     let h = both-true (eqb (a .bits) 7) (leb 0x80 o) e in
     (eqb-true (a .bits) 7 (h .0), leb-true 0x80 o (h .1))
-
-is-false : (t : Bool) → (t ≡ true → ⊥) → t ≡ false
-is-false true n = absurd (n refl)
-is-false false n = refl
 
 -- the tests' outcomes, by the number
 abbrev numbered : Bool → Bool → Bool → ℕ
