@@ -172,7 +172,7 @@ def comparisons() -> Iterator[Comparing]:
             yield Comparing(form, octets, b"A" + octets)
     yield from (Comparing(form, b"A", b"B") for form in (0, 4, 9))
     over = b"A" * (model.MOST_ENTRIES + 1)
-    yield from (Comparing(1, over, b"\x1B"), Comparing(1, b"\x1B", over))
+    yield from (Comparing(1, over, b"\x1B"), Comparing(1, b"\x1B", over), Comparing(1, over, over))
 
 
 def differing(form: int, place: int, text: bytes, name: str) -> str:
