@@ -1,9 +1,9 @@
 /* Does one job on one text so many times: the counts of two runs, with one round and with none, differ by what the job costs.
      drive JOB TEXT OCTETS ROUNDS
-   JOB: read-F, write-F, convert-F-G; list-F-N, which writes the first N words alone; feed-F-N, a page in pieces of N octets; compare-F,
-   the text beside the same octets; respelt-F, the text beside its canonical spelling;
+   JOB: read-F, write-F, convert-F-G; list-F-N, which writes the first N words alone; feed-F-N, a page in pieces of N octets; element-F, the
+   text gone through element by element; compare-F, the text beside the same octets; respelt-F, the text beside its canonical spelling;
    iconv-F:FROM:TO, on the octets of form F; iconv-words-F:NAME, which writes as NAME what iconv read of these octets from NAME.
-   TEXT: ascii, nine-to-one, pairs, supplementary, sequences. */
+   TEXT: ascii, nine-to-one, pairs, supplementary, sequences; not-canonical, nine letters to one element that the form spells otherwise. */
 #include <iconv.h>
 #include <stdint.h>
 #include <stdio.h>
@@ -71,7 +71,16 @@ static size_t sequence(uint8_t *e)
     return strlen(s);
 }
 
-static size_t element(const char *name, size_t i, uint8_t *e)
+/* In forms 1 and 2 an accent that has an octet of its own, and in form 3 the number sign or the currency sign. */
+static size_t not_canonical(int form, uint8_t *e)
+{
+    static const uint8_t accents[] = {0xC1, 0xC3, 0xC4};
+    e[0] = form == 3 ? 0x23 + any(2) : accents[any(sizeof accents)];
+    e[1] = 0x20;
+    return form == 3 ? 1 : 2;
+}
+
+static size_t element(const char *name, int form, size_t i, uint8_t *e)
 {
     if (strcmp(name, "ascii") == 0)
         return ascii(e);
@@ -83,6 +92,8 @@ static size_t element(const char *name, size_t i, uint8_t *e)
         return supplementary(e);
     if (strcmp(name, "sequences") == 0)
         return sequence(e);
+    if (strcmp(name, "not-canonical") == 0)
+        return i % 10 == 9 ? not_canonical(form, e) : ascii(e);
     fail("no such text");
     return 0;
 }
@@ -93,7 +104,7 @@ static void make(const char *name, int form, size_t size)
     size_t at = 0;
     for (size_t i = 0;; i++) {
         uint8_t e[16];
-        size_t n = element(name, i, e);
+        size_t n = element(name, form, i, e);
         if (form == 2 && e[0] >= 0x80) {
             memmove(e + 1, e, n++);
             e[0] = 0x19;
@@ -109,9 +120,9 @@ static void make(const char *name, int form, size_t size)
 
 /* ---- the jobs */
 
-static void expect(struct oak_answer a)
+static void expect(size_t number)
 {
-    if (a.number != 0)
+    if (number != OAK_ACCEPTED)
         fail("refused");
 }
 
@@ -123,11 +134,23 @@ static void feed(int form, size_t size, size_t piece)
     do {
         size_t n = size - at < piece ? size - at : piece;
         const struct oak_fed fed = oak_feed(carry, text + at, n, at + n == size, words + handed, MOST - handed);
-        expect(fed.answer);
+        expect(fed.answer.number);
         carry = fed.carry;
         at += n;
         handed += fed.handed;
     } while (at < size);
+}
+
+/* The text element by element; the words of all of them stand one after another. */
+static void go_through(int form, size_t size)
+{
+    size_t at = 0, count = 0;
+    while (at < size) {
+        const struct oak_reading e = oak_element(form, text, size, at, words + count, MOST - count);
+        expect(e.number);
+        at = e.place;
+        count += e.count;
+    }
 }
 
 /* So many rounds of the text beside another that means the same. */
@@ -171,32 +194,35 @@ int main(int argc, char **argv)
     make(argv[2], form, size);
     if (strncmp(job, "read", 4) == 0)
         for (int i = 0; i < rounds; i++)
-            expect(oak_read(form, text, size, words, MOST));
+            expect(oak_read(form, text, size, words, MOST).number);
+    else if (strncmp(job, "element", 7) == 0)
+        for (int i = 0; i < rounds; i++)
+            go_through(form, size);
     else if (strncmp(job, "feed", 4) == 0)
         for (int i = 0; i < rounds; i++)
             feed(form, size, strtoul(digit + 2, NULL, 10));
     else if (strncmp(job, "write", 5) == 0) {
-        struct oak_answer a = oak_read(form, text, size, words, MOST);
-        expect(a);
+        struct oak_reading a = oak_read(form, text, size, words, MOST);
+        expect(a.number);
         for (int i = 0; i < rounds; i++)
-            expect(oak_write(form, words, a.count, out, sizeof out));
+            expect(oak_write(form, words, a.count, out, sizeof out).number);
     } else if (strncmp(job, "list", 4) == 0) {
         size_t n = strtoul(digit + 2, NULL, 10);
-        struct oak_answer a = oak_read(form, text, size, words, MOST);
-        expect(a);
+        struct oak_reading a = oak_read(form, text, size, words, MOST);
+        expect(a.number);
         if (a.count < n)
             fail("too few words");
         for (int i = 0; i < rounds; i++)
-            expect(oak_write(form, words, n, out, sizeof out));
+            expect(oak_write(form, words, n, out, sizeof out).number);
     } else if (strncmp(job, "convert", 7) == 0)
         for (int i = 0; i < rounds; i++)
-            expect(oak_convert(form, digit[2] - '0', text, size, out, sizeof out));
+            expect(oak_convert(form, digit[2] - '0', text, size, out, sizeof out).number);
     else if (strncmp(job, "compare", 7) == 0) {
         memcpy(out, text, size);
         compare(form, size, size, rounds);
     } else if (strncmp(job, "respelt", 7) == 0) {
-        struct oak_answer a = oak_convert(form, form, text, size, out, sizeof out);
-        expect(a);
+        struct oak_reading a = oak_convert(form, form, text, size, out, sizeof out);
+        expect(a.number);
         compare(form, size, a.count, rounds);
     } else if (strncmp(job, "iconv-words", 11) == 0) {
         const char *name = digit + 2;

@@ -5,6 +5,9 @@
  * take a word apart. No function guesses: input that is not of the form is refused with a number, and the places that the number
  * carries say where. Each function's answer, and every entry of each buffer after it, is proved for every input.
  *
+ * Some elements have more than one spelling in a form, and each has one that is canonical, which oak_write gives. Every spelling is read;
+ * how many were not canonical is said beside the other numbers, and oak_element says it of one.
+ *
  * What a caller keeps:
  *   - A pointer is to as many entries as the length after it says, and a pointer to words is aligned as a uint32_t. Nothing tests it:
  *     a wrong length or a stray pointer is read, and written, as in any C function.
@@ -23,7 +26,8 @@
  * To find how large a buffer must be, lend one of length 0: the answer is OAK_SHORT_ROOM with the room needed as `count`, or
  * OAK_ACCEPTED where nothing is to be written, or a refusal that no room would alter. Of oak_feed any answer but OAK_SHORT_ROOM gives a
  * carry that has taken the piece, or that goes no further: offer the piece again with the earlier carry only. Reading a text or a case
- * never needs more words than it has octets; a piece of a page, than it has octets and OAK_MOST_HELD more.
+ * never needs more words than it has octets; a piece of a page, than it has octets and OAK_MOST_HELD more; one element, than
+ * OAK_MOST_WORDS.
  */
 #ifndef OAKENTWIRL_H
 #define OAKENTWIRL_H
@@ -37,6 +41,14 @@ extern "C" {
 #else
 _Static_assert(sizeof(size_t) == 8, "the library is made for 64 bits");
 #endif
+
+/*
+ * The version of this header, and of the library that goes with it. The major number changes where what a function takes or gives has
+ * another layout: then every caller is compiled anew. Nothing tests it: an old caller that is linked with a new library reads wrong
+ * numbers, and results are written past the room that it has for them. What came before 2.0 had no number, and counts as 1.
+ */
+#define OAK_VERSION_MAJOR 2
+#define OAK_VERSION_MINOR 0
 
 /* The forms of text. */
 enum {
@@ -53,16 +65,20 @@ enum {
 /* The most octets of an unfinished element that wait from one piece of a page to the next. */
 #define OAK_MOST_HELD 39
 
+/* The most words of one element: the first word of a control sequence, and 8 values. */
+#define OAK_MOST_WORDS 9
+
 /*
  * Every answer's `number`: what it means; what `element`, `place` and `count` are with it; and what a caller does next.
  *
- * `element` is the number of elements before the refused one for 1 to 8 and 10, and 0 for 9 and from 11 on. "First" is the place of the
- * refused element's first octet, "deciding" that of the octet that decided. In a refused page of a case both are counted from
- * the page's start, and so they are in a page that comes in pieces; of oak_compare, in the text that `text` says. Where place and count
- * are not named, they are 0.
+ * `element` is the number of elements before the refused one for 1 to 8 and 10, and 0 for 9 and from 11 on; of oak_element it is 0 in
+ * every refusal. "First" is the place of the refused element's first octet, "deciding" that of the octet that decided. In a refused page
+ * of a case both are counted from the page's start, and so they are in a page that comes in pieces; of oak_compare, in the text that
+ * `text` says; of oak_element, from the start of the whole text. Where place and count are not named, they are 0.
  */
 enum {
     /* All is well. element: elements (0 of oak_case_write); place: input length; count: entries written. Next: use those.
+       oak_element: 1, the place after the element, and its words. Next: use those, and ask again at `place`. Or zeros: no element is left.
        oak_fresh: zeros. Next: feed the first piece.
        oak_feed: elements, octets taken and words since fresh. Next: use the words handed out, and feed the next piece, unless the page
        ended with this one.
@@ -116,9 +132,25 @@ struct oak_answer {
     size_t number, element, place, count;
 };
 
-/* The same, and the page that is refused, counted from 0; it is 0 in every other answer. */
+/*
+ * The four numbers of a reading or a conversion, and respelled: how many of the elements did not stand in their canonical spelling, in the
+ * form that they were read in. In every refusal, OAK_SHORT_ROOM too, it is 0. Not canonical are
+ *   - in form 1 C1 20, C3 20 and C4 20, in form 2 19 41 20, 19 43 20 and 19 44 20: canonical are 60, 5E and 7E;
+ *   - in form 3 23 and 24, by themselves or after CC: canonical are A6 and A8 (and C1 20, C3 20 and C4 20 are);
+ *   - a control sequence with a value that begins with the digit 0: canonically 0 has no digits, and no value has leading zeros.
+ *
+ * A conversion counts what was not canonical in the source form, whatever the target: the spellings that it altered, beyond the change of
+ * form. Where there are none, converting back, within the limit, gives the text octet for octet; and converting within one form changed
+ * nothing. Where there are some, they cannot be had back: who may be asked for them keeps the text as it came, and finds them in it by
+ * oak_element. The number adds up: two accepted texts, one behind the other, have the sum of both.
+ */
+struct oak_reading {
+    size_t number, element, place, count, respelled;
+};
+
+/* The same of a case, with the sum over its pages, and the page that is refused, counted from 0; it is 0 in every other answer. */
 struct oak_case_answer {
-    size_t number, element, place, count, page;
+    size_t number, element, place, count, respelled, page;
 };
 
 /*
@@ -129,15 +161,15 @@ struct oak_case_answer {
  */
 struct oak_carry {
     struct oak_answer answer;
-    size_t spare, holds;
+    size_t respelled, holds;
     uint32_t form, stopped;
     uint8_t held[OAK_MOST_HELD];
 };
 
-/* What oak_fresh and oak_feed give: the carry for the next call, the four numbers, and how many words were handed out. */
+/* What oak_fresh and oak_feed give: the carry for the next call, the five numbers since fresh, and how many words were handed out. */
 struct oak_fed {
     struct oak_carry carry;
-    struct oak_answer answer;
+    struct oak_reading answer;
     size_t handed;
 };
 
@@ -194,8 +226,20 @@ struct oak_comparison {
 #define OAK_SEQUENCE_OF(intermediate, final, values) \
     (OAK_SEQUENCE + ((uint32_t)(intermediate) << 16) + ((uint32_t)(final) << 8) + (uint32_t)(values))
 
-/* Reads a text of the form into words. Refused with 11, 12, 1 to 8, 9: the first that holds, in this order. */
-struct oak_answer oak_read(uint32_t form, const uint8_t *text, size_t text_len, uint32_t *words, size_t words_len);
+/*
+ * Reads a text of the form into words; respelled is how many of its elements are not canonical. Refused with 11, 12, 1 to 8, 9: the first
+ * that holds, in this order.
+ */
+struct oak_reading oak_read(uint32_t form, const uint8_t *text, size_t text_len, uint32_t *words, size_t words_len);
+
+/*
+ * Reads the one element that begins at the place `at` of a text. Asked at 0, and then each time at the `place` that it gave, it goes
+ * through the text. respelled is 1 where the element is not canonical, else 0. Its octets are those from `at` up to `place`, and
+ * oak_convert of them alone, within the form, gives its canonical spelling. At the end of the text and past it no element is left, and all
+ * five numbers are 0: `element`, which is 1 of an element, tells the two apart. What stands before `at` is not looked at: asked inside an
+ * element, it reads what stands there as if one began there. Refused with 11, 12, 1 to 8, 9.
+ */
+struct oak_reading oak_element(uint32_t form, const uint8_t *text, size_t text_len, size_t at, uint32_t *words, size_t words_len);
 
 /* Makes a page fresh: a carry that holds no octets and has read no elements. Hands out nothing. Refused with 11. */
 struct oak_fed oak_fresh(uint32_t form);
@@ -204,7 +248,8 @@ struct oak_fed oak_fresh(uint32_t form);
  * Takes the next piece of a page, which may be empty, and hands out the words of the elements that it finishes. `ended` is 0 where more
  * is to come, and anything else where the page ends with this piece. However a page within OAK_MOST_ENTRIES is cut, the words handed out
  * are those of its elements up to its end or its first fault, and its last answer is oak_read's of the whole page, with room enough. Of
- * a longer one, the words are those of the whole elements before the piece that passes the limit, unless a fault comes first.
+ * a longer one, the words are those of the whole elements before the piece that passes the limit, unless a fault comes first. Before the
+ * end, respelled is of the elements since fresh that are whole.
  *
  * A buffer of piece_len + OAK_MOST_HELD words is always large enough. Where it is short, nothing is handed out and the carry is as it
  * was: the same piece can be offered again. Any other refusal, and the answer at the end, is repeated by each call with its carry, which
@@ -216,8 +261,11 @@ struct oak_fed oak_feed(struct oak_carry carry, const uint8_t *piece, size_t pie
 /* Writes words as text of the form, each element in its one canonical spelling. Refused with 11, 12, 10, 9. */
 struct oak_answer oak_write(uint32_t form, const uint32_t *words, size_t words_len, uint8_t *text, size_t text_len);
 
-/* Converts a text from one form to another, or, where both are the same, to its canonical spelling. Refused with 11, 12, 1 to 8, 10, 9. */
-struct oak_answer oak_convert(uint32_t source, uint32_t target, const uint8_t *text, size_t text_len, uint8_t *out, size_t out_len);
+/*
+ * Converts a text from one form to another, or, where both are the same, to its canonical spelling. respelled is how many of its elements
+ * are not canonical in the source form: what oak_read says of the text. Refused with 11, 12, 1 to 8, 10, 9.
+ */
+struct oak_reading oak_convert(uint32_t source, uint32_t target, const uint8_t *text, size_t text_len, uint8_t *out, size_t out_len);
 
 /*
  * Says what changed between two texts of one form: the element at which what they mean first differs, or how many elements are spelled
@@ -226,7 +274,10 @@ struct oak_answer oak_convert(uint32_t source, uint32_t target, const uint8_t *t
  */
 struct oak_comparison oak_compare(uint32_t form, const uint8_t *first, size_t first_len, const uint8_t *second, size_t second_len);
 
-/* Reads the pages of a TLX case into words, one page after another. Refused with 13, 14, 11, 15, 1 to 8 of the first such page, 9. */
+/*
+ * Reads the pages of a TLX case into words, one page after another; respelled is how many elements of all pages are not canonical. Refused
+ * with 13, 14, 11, 15, 1 to 8 of the first such page, 9.
+ */
 struct oak_case_answer oak_case_read(const uint8_t *tlx, size_t tlx_len, uint32_t *words, size_t words_len);
 
 /* Writes a TLX case from the form, the length of each page and the octets of all pages, which are not read. Refused with 11, 15, 9. */

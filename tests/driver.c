@@ -20,11 +20,12 @@
 #define STEP ((size_t)65536)
 #define ROOM (66 * STEP)
 
-enum ask { READ = 1, WRITE, CONVERT, CASE_READ, CASE_WRITE, LOOK_TOO_FAR, PUT_TOO_FAR, FRESH, CARRIED, EACH, COMPARE, OVERLAP };
+enum ask { READ = 1, WRITE, CONVERT, CASE_READ, CASE_WRITE, LOOK_TOO_FAR, PUT_TOO_FAR, FRESH, CARRIED, EACH, COMPARE, OVERLAP, ELEMENTS };
 enum side { MIDDLE, START, END };
 
 struct question {
-    uint32_t ask, form, target;
+    uint32_t ask, form;
+    uint32_t target; /* a form, or at how many places an element is read */
     uint32_t first;  /* octets or words of the text, or page lengths, or calls of a page that comes in pieces, or code points from 0 on */
     uint32_t second; /* octets of the pages that a case is written from, or of the second text that is compared */
     uint32_t room;   /* entries of the buffer that is written */
@@ -46,7 +47,8 @@ struct buffer {
 
 /* What is answered of one code point by itself: written; and where that is accepted, its octets read, and converted within the form. */
 struct point {
-    struct oak_answer written, read, converted;
+    struct oak_answer written;
+    struct oak_reading read, converted;
     uint8_t spelling[SPELLING], same[SPELLING];
     uint32_t words[WORDS];
 };
@@ -119,9 +121,14 @@ static void too_far(enum ask ask, enum side side, struct buffer b)
         octets[beside] = 0;
 }
 
-static struct oak_case_answer with_page_0(struct oak_answer a)
+static struct oak_case_answer with_page_0(struct oak_reading a)
 {
-    return (struct oak_case_answer){a.number, a.element, a.place, a.count, 0};
+    return (struct oak_case_answer){a.number, a.element, a.place, a.count, a.respelled, 0};
+}
+
+static struct oak_case_answer with_zeros(struct oak_answer a)
+{
+    return (struct oak_case_answer){a.number, a.element, a.place, a.count, 0, 0};
 }
 
 static struct oak_case_answer asked(const struct question *q, enum side side, struct buffer in, struct buffer more, struct buffer out)
@@ -130,13 +137,13 @@ static struct oak_case_answer asked(const struct question *q, enum side side, st
     case READ:
         return with_page_0(oak_read(q->form, in.start, q->first, out.start, q->room));
     case WRITE:
-        return with_page_0(oak_write(q->form, in.start, q->first, out.start, q->room));
+        return with_zeros(oak_write(q->form, in.start, q->first, out.start, q->room));
     case CONVERT:
         return with_page_0(oak_convert(q->form, q->target, in.start, q->first, out.start, q->room));
     case CASE_READ:
         return oak_case_read(in.start, q->first, out.start, q->room);
     case CASE_WRITE:
-        return with_page_0(oak_case_write(q->form, in.start, q->first, more.start, q->second, out.start, q->room));
+        return with_zeros(oak_case_write(q->form, in.start, q->first, more.start, q->second, out.start, q->room));
     case LOOK_TOO_FAR:
     case PUT_TOO_FAR:
         too_far(q->ask, side, out);
@@ -175,6 +182,26 @@ static void feed_all(const struct question *q, enum side side, uint8_t *ins, uin
         give(in);
         give(out);
     }
+}
+
+static void give_element(const struct question *q, struct buffer in, size_t at, struct buffer out)
+{
+    fill(out);
+    struct oak_reading a = oak_element(q->form, in.start, q->first, at, out.start, q->room);
+    give((struct buffer){&a, sizeof a});
+    give(out);
+}
+
+/* One element at each of the first places of a text, and at the last place that there is. */
+static void elements(const struct question *q, enum side side, uint8_t *ins, uint8_t *outs)
+{
+    struct buffer in = lay(ins, side, q->first, 1);
+    struct buffer out = lay(outs, side, q->room, sizeof(uint32_t));
+    take(in);
+    for (size_t at = 0; at < q->target; at++)
+        give_element(q, in, at, out);
+    give_element(q, in, SIZE_MAX, out);
+    give(in);
 }
 
 /* So many octets of a buffer's end, where they are. */
@@ -269,6 +296,10 @@ int main(int count, char **arguments)
     while (fread(&q, sizeof q, 1, stdin) == 1) {
         if (q.ask == FRESH || q.ask == CARRIED) {
             feed_all(&q, side, ins, outs);
+            continue;
+        }
+        if (q.ask == ELEMENTS) {
+            elements(&q, side, ins, outs);
             continue;
         }
         if (q.ask == EACH) {

@@ -1,11 +1,12 @@
 """The examples: programs that convert a file from one form to another, one that reads a page as it comes, one that says what changed
-between two files, and those of README.md.
+between two files, one that names what is not canonical in a file, and those of README.md.
 
-`check` runs one program on each text beside the model of the documents, and compares its exit status, its output file and its message:
-that of a refusal names the number, the octet in hex, its place and its element. `check_serial` does so with pages on standard input, and
-compares the words that are printed; `check_compare` with two files, and compares the line that says what changed. `check_readme` runs the
-lines of a section of README.md as they are written there, and compares what they write with the comments at their end. `check_own` runs a
-program of tests that Rust made. Standard library only.
+`check` runs one program on each text beside the model of the documents, and compares its exit status, its output file, the line that it
+prints and its message: that of a refusal names the number, the octet in hex, its place and its element. `check_serial` does so with pages
+on standard input, and compares the words that are printed; `check_compare` with two files, and compares the line that says what changed;
+`check_respelled` with one file, and compares the lines that name its elements. `check_readme` runs the lines of a section of README.md as
+they are written there, and compares what they write with the comments at their end. `check_own` runs a program of tests that Rust made.
+Standard library only.
 """
 from __future__ import annotations
 
@@ -14,7 +15,7 @@ import random
 import re
 import subprocess
 import sys
-from typing import Iterator, NamedTuple, Optional, Sequence
+from typing import Iterator, NamedTuple, Optional, Sequence, Union
 
 sys.dont_write_bytecode = True
 import make_text_vectors as texts
@@ -28,16 +29,18 @@ class Conversion(NamedTuple):
 
 
 class Ending(NamedTuple):
-    """How a run ends: its exit status, what the output file has, or None where there is none, and how its message begins."""
+    """How a run ends: exit status, what it prints, how its message begins, and what the output file has, or None where there is none."""
 
     status: int
-    output: Optional[bytes]
+    printed: bytes
     message: str
+    output: Optional[bytes] = None
 
 
 def conversions() -> Iterator[Conversion]:
-    """The document's readings, what every form refuses, a text of each form that the others hold, and what no form is asked for."""
-    for form, text, _ in model.READINGS:
+    """The document's readings, what is not canonical, what every form refuses, a text of each form that the others hold, and what no form
+    is asked for."""
+    for form, text, _ in [*model.READINGS, *model.RESPELLED]:
         yield from (Conversion(form, target, bytes.fromhex(text)) for target in model.FORMS)
     for form in model.FORMS:
         yield from (Conversion(form, form, b"A" + bytes(octets)) for octets in texts.refused_octets(form))
@@ -48,12 +51,15 @@ def conversions() -> Iterator[Conversion]:
     yield Conversion(1, 1, b"A" * (model.MOST_ENTRIES + 1))
 
 
-def named(answer: model.Answer) -> int:
+Refused = Union[model.Answer, model.ReadAnswer]
+
+
+def named(answer: Refused) -> int:
     """The place of the octet that a refusal is about."""
     return answer.place if answer.number in (4, 10) else answer.count
 
 
-def refusal_message(program: str, answer: model.Answer, text: bytes) -> str:
+def refusal_message(program: str, answer: Refused, text: bytes) -> str:
     """How the message of a refusal begins."""
     message = f"{program}: refused with {answer.number}: "
     if answer.number <= 10:
@@ -65,8 +71,8 @@ def refusal_message(program: str, answer: model.Answer, text: bytes) -> str:
 def expected(asked: Conversion) -> Ending:
     answer, octets = model.convert_text(asked.source, asked.target, asked.text)
     if answer.number == 0:
-        return Ending(0, bytes(octets), "")
-    return Ending(1, None, refusal_message("convert", answer, asked.text))
+        return Ending(0, f"{answer.respelled} elements respelled\n".encode(), "", bytes(octets))
+    return Ending(1, b"", refusal_message("convert", answer, asked.text))
 
 
 def run(program: Sequence[str], asked: Conversion, folder: pathlib.Path) -> Ending:
@@ -75,14 +81,14 @@ def run(program: Sequence[str], asked: Conversion, folder: pathlib.Path) -> Endi
     output.unlink(missing_ok=True)
     command = [*program, str(asked.source), str(asked.target), str(text), str(output)]
     ended = subprocess.run(command, capture_output=True, check=False)
-    return Ending(ended.returncode, output.read_bytes() if output.exists() else None, ended.stderr.decode())
+    return Ending(ended.returncode, ended.stdout, ended.stderr.decode(), output.read_bytes() if output.exists() else None)
 
 
 def is_as(ending: Ending, wanted: Ending) -> bool:
     """A refusal is said in words after its numbers, on one line."""
     said = ending.message[len(wanted.message) :]
     in_words = len(said) > 10 and said.count("\n") == 1 if wanted.message else said == ""
-    return ending[:2] == wanted[:2] and ending.message.startswith(wanted.message) and in_words
+    return ending._replace(message="") == wanted._replace(message="") and ending.message.startswith(wanted.message) and in_words
 
 
 def check(name: str, program: Sequence[str], folder: pathlib.Path) -> tuple[int, int]:
@@ -177,7 +183,7 @@ def comparisons() -> Iterator[Comparing]:
 
 def differing(form: int, place: int, text: bytes, name: str) -> str:
     """How the element of a text that differs is named."""
-    _, _, after = model.read_element(form, text, place)
+    _, _, after, _ = model.read_element(form, text, place)
     return f"{text[place:after].hex(' ').upper()} at place {place} of {name}"
 
 
@@ -224,6 +230,40 @@ def check_compare(program: Sequence[str], folder: pathlib.Path) -> tuple[int, in
             both = " and ".join(text[:40].hex(" ") for text in asked[1:])
             print(f"  two files of form {asked.form}, {both}: {ending}, and not {wanted}")
     print(f"the example of two files compared: {passed} of {passed + failed} changes said or refused as they should be")
+    return passed, failed
+
+
+def not_canonical(form: int, text: bytes, pieces: Sequence[model.Piece], end: int) -> Iterator[str]:
+    """A line for each of the elements, which stand before the place, that is not canonical."""
+    for element, (piece, octets) in enumerate(zip(pieces, model.pieces_octets(pieces, text[:end]))):
+        if not piece.canonical:
+            canonical = bytes(model.spell_element(form, piece.words))
+            yield f"element {element}: {octets.hex(' ').upper()} at place {piece.place}, canonical {canonical.hex(' ').upper()}\n"
+
+
+def expected_respelled(form: int, text: bytes) -> Ending:
+    """The elements up to the end or the first fault, one to a line, and then both counts."""
+    refusal = model.refused_before([form], text)
+    pieces, fault = ([], refusal) if refusal else model.read_pieces(form, text)
+    printed = "".join(not_canonical(form, text, pieces, fault.place if fault else len(text)))
+    if fault:
+        return Ending(1, printed.encode(), refusal_message("respelled", fault, text))
+    return Ending(0, f"{printed}{len(pieces)} elements, {model.respelled_in(pieces)} of them not canonical\n".encode(), "")
+
+
+def check_respelled(program: Sequence[str], folder: pathlib.Path) -> tuple[int, int]:
+    passed = failed = 0
+    counted = [(form, bytes.fromhex(text)) for form, text, _ in model.RESPELLED]
+    for form, text in [*pages(), *counted, *((form, text + b"\x1B") for form, text in counted)]:
+        (folder / "text").write_bytes(text)
+        ended = subprocess.run([*program, str(form), str(folder / "text")], capture_output=True, check=False)
+        ending, wanted = Ending(ended.returncode, ended.stdout, ended.stderr.decode()), expected_respelled(form, text)
+        if is_as(ending, wanted):
+            passed += 1
+        else:
+            failed += 1
+            print(f"  a file of form {form}, {text[:40].hex(' ')}: {ending}, and not {wanted}")
+    print(f"the example of what is not canonical: {passed} of {passed + failed} files gone through or refused as they should be")
     return passed, failed
 
 

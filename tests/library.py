@@ -3,22 +3,25 @@
     library.py FOLDER [EMULATOR ..]     for tests/run: FOLDER has the built programs, which run under the emulator if one is named
 
 `compare` asks every question with the buffers laid in three ways, and says how many answers are the model's: all numbers, and every
-octet of each lent buffer after the call, the ones that are only read too. Questions are all texts of up to two octets, read and
-converted; the vectors of make_text_vectors.py, make_serial_vectors.py, make_tlx_vectors.py and make_compare_vectors.py; random texts, words
-and cases, whole and damaged; random pages up to the limit in random pieces, each beside its reading as a whole; carries that nobody made;
-two texts compared, all of one octet, and random ones beside their respellings, changed and damaged; and the longest texts.
+octet of each lent buffer after the call, the ones that are only read too. Questions are all texts of up to two octets, and of three that
+begin with SS2 or CC, read and converted, and each of their elements by itself; sequences in every kind of spelling; the vectors of
+make_text_vectors.py, make_serial_vectors.py, make_tlx_vectors.py and make_compare_vectors.py; random texts, words and cases, whole and
+damaged; accepted texts joined; random pages up to the limit in random pieces, each beside its reading as a whole; carries that nobody
+made; two texts compared, all of one octet, and random ones beside their respellings, changed and damaged; and the longest texts.
 `points` asks of every code point up to 11FFFF, laid in the same three ways, how each form writes it, and how it reads and converts that.
 
 A question is six 32-bit numbers (what is asked, form, target, entries of the first buffer, octets of the second, room) and the two
-buffers; an answer is five 64-bit numbers and all three buffers. A page in pieces has its number of calls as the first buffer's entries,
-and then the fields of a carry if it is not made fresh. For each call follow three numbers (octets of the piece, whether the page ends,
-room) and the piece; its answer is the carry, the four numbers, how many words were handed out, and both buffers. Two texts that are
-compared are the two buffers, or the second is the end of the first; the answer is eleven numbers and both texts. The question of code
-points has their number as the first buffer's entries, and no buffer; its answer is a record of POINTS for each run of them that are
-answered alike. Standard library only.
+buffers; an answer is six 64-bit numbers and all three buffers. Elements of a text one by one have the number of places as the target;
+the answer is five numbers and the words of each, of the one at the last place that there is too, and the text. A page in pieces has its
+number of calls as the first buffer's entries, and then the fields of a carry if it is not made fresh. For each call follow three numbers
+(octets of the piece, whether the page ends, room) and the piece; its answer is the carry, the five numbers, how many words were handed
+out, and both buffers. Two texts that are compared are the two buffers, or the second is the end of the first; the answer is eleven
+numbers and both texts. The question of code points has their number as the first buffer's entries, and no buffer; its answer is a record
+of POINTS for each run of them that are answered alike. Standard library only.
 """
 from __future__ import annotations
 
+import functools
 import itertools
 import pathlib
 import random
@@ -33,16 +36,18 @@ from typing import Iterable, Iterator, NamedTuple, Optional, Sequence, Union
 sys.dont_write_bytecode = True
 import examples
 import make_compare_vectors as compares
+import make_element_vectors as elements
 import make_serial_vectors as serials
 import make_text_vectors as texts
 import make_tlx_vectors as cases
 import model
 
-READ, WRITE, CONVERT, CASE_READ, CASE_WRITE, LOOK_TOO_FAR, PUT_TOO_FAR, FRESH, CARRIED, EACH, COMPARE, OVERLAP = range(1, 13)
+READ, WRITE, CONVERT, CASE_READ, CASE_WRITE, LOOK_TOO_FAR, PUT_TOO_FAR, FRESH, CARRIED, EACH, COMPARE, OVERLAP, ELEMENTS = range(1, 14)
 OCTET, WORD = 1, 4
 SIDES = ("middle", "start", "end")
 SEED = 61
 RANDOM_TEXTS = 2_500  # of each form, before damage
+JOINED = 1_000  # pairs of texts of each form
 RANDOM_CASES = 400
 RANDOM_PAGES = 100  # of each form, in pieces, before damage
 LONG_PAGES = 2  # and so many of any length up to the limit
@@ -53,6 +58,7 @@ RANDOM_PAIRS = 1_000  # texts of each form, before they are changed
 LONG_PAIRS = 15  # and so many of up to some thousand octets
 OVERLAPS = 1_000  # of each form, in one buffer
 REFUSED_ROOM = 3
+LAST_PLACE = 2**64 - 1
 
 # What the driver fills a buffer with: it comes again after 256 octets.
 FILL = bytes((37 * place + 11) % 256 for place in range(256))
@@ -60,7 +66,7 @@ FILL = bytes((37 * place + 11) % 256 for place in range(256))
 # Past the last code point there is, 10FFFF, by a plane. What the driver says of those that are answered alike: the first and the last;
 # the numbers of writing, of reading and of converting; and the buffers of writing, converting and reading.
 CODE_POINTS = 0x120000
-POINTS = struct.Struct("<2Q12Q8s8s8s")
+POINTS = struct.Struct("<2Q14Q8s8s8s")
 UNSPELT = bytes(range(0x80, 0x88))  # what it fills these buffers with: octets that no character's spelling has
 
 
@@ -83,9 +89,9 @@ def left(put: bytes, size: int) -> bytes:
 def asked(ask: int, forms: Sequence[int], first: tuple[int, bytes], second: bytes, room: int, answer: Sequence[int], after: bytes) -> Asked:
     """`first` is its number of entries and its octets; `after` is what the written buffer holds."""
     form, target = (*forms, 0, 0)[:2]
-    numbers = (*answer, 0)[:5]
+    numbers = (*answer, 0, 0)[:6]
     question = struct.pack("<6I", ask, form, target, first[0], len(second), room) + first[1] + second
-    return Asked(question, struct.pack("<5Q", *numbers) + first[1] + second + after)
+    return Asked(question, struct.pack("<6Q", *numbers) + first[1] + second + after)
 
 
 def reading(form: int, text: bytes, room: int) -> Asked:
@@ -113,23 +119,54 @@ def case_writing(form: int, lengths: Sequence[int], octets: bytes, room: int) ->
     return asked(CASE_WRITE, [form], (len(lengths), words_octets(lengths)), octets, room, answer, left(bytes(case), room))
 
 
+def elements_read(form: int, text: bytes, room: int, places: Optional[int] = None) -> Asked:
+    """One element at each of so many places, or at each of the text, at its end and past it; and at the last place that there is."""
+    places = len(text) + 2 if places is None else places
+    question = struct.pack("<6I", ELEMENTS, form, places, len(text), 0, room) + text
+    answer = []
+    for at in (*range(places), LAST_PLACE):
+        numbers, words = model.read_one(form, text, at, room)
+        answer += [struct.pack("<5Q", *numbers), left(words_octets(words), WORD * room)]
+    return Asked(question, b"".join(answer) + text)
+
+
 def short() -> Iterator[Asked]:
-    """All texts of up to two octets, read and converted in each way, with room for whatever they give."""
+    """All texts of up to two octets, read and converted in each way, with room for whatever they give; and their elements one by one."""
     for size in range(3):
         for octets in itertools.product(range(256), repeat=size):
             text = bytes(octets)
             for form in model.FORMS:
                 yield reading(form, text, size)
+                yield elements_read(form, text, size)
                 for target in model.FORMS:
                     yield converting(form, target, text, 2 * size)
 
 
+def three_octets() -> Iterator[Asked]:
+    """All texts of SS2 and two octets in form 2, and of CC and two octets in form 3, read and converted within the form."""
+    for form, first in ((2, model.SS2), (3, model.UNDERLINE)):
+        for octets in itertools.product(range(256), repeat=2):
+            text = bytes((first, *octets))
+            yield reading(form, text, len(text))
+            yield converting(form, form, text, 2 * len(text))
+
+
+def sequences() -> Iterator[Asked]:
+    """Sequences in every kind of spelling, alone and between others, read, converted, and one by one."""
+    chance = random.Random(SEED)
+    for octets in (*elements.spelt_sequences(), *elements.sequences(chance)):
+        for text in (bytes(octets), b"a" * chance.randrange(20) + bytes(octets) + b"#"):
+            yield reading(3, text, room_near(model.read_text(3, text), chance))
+            yield converting(3, 3, text, room_near(model.convert_text(3, 3, text), chance))
+            yield elements_read(3, text, chance.choice([0, 1, 2, 8, 9, 10]))
+
+
 def carry_octets(carry: model.Carry) -> bytes:
-    return struct.pack("<6Q2I", *carry.answer, carry.spare, carry.holds, carry.form, carry.stopped) + bytes(carry.held)
+    return struct.pack("<6Q2I", *carry.answer, carry.respelled, carry.holds, carry.form, carry.stopped) + bytes(carry.held)
 
 
 def fed_octets(fed: model.Fed) -> bytes:
-    return carry_octets(fed.carry) + struct.pack("<5Q", *fed.answer, len(fed.words))
+    return carry_octets(fed.carry) + struct.pack("<6Q", *fed.answer, len(fed.words))
 
 
 def feeding(start: Union[int, model.Carry], calls: Sequence[serials.Call], outcomes: Iterable[model.Fed]) -> Asked:
@@ -168,11 +205,13 @@ def vectors() -> Iterator[Asked]:
         yield from (comparing(*pair) for pair in found)
     for form in model.FORMS:
         yield from (reading(q.forms[0], bytes(q.entries), q.room) for q in texts.readings(form))
+        yield from (elements_read(form, bytes(text), 2) for text in texts.respelled_texts(form, random.Random(SEED)))
         yield from (writing(q.forms[0], q.entries, q.room) for q in texts.writings(form))
-        yield from (converting(*q.forms, bytes(q.entries), q.room) for q in texts.conversions(form))
+        yield from (converting(*q.forms, bytes(q.entries), q.room) for q in (*texts.conversions(form), *texts.respellings(form)))
         yield from (case_reading(bytes(q.case), q.room) for q in cases.readings(form))
         yield from (case_writing(q.form, q.lengths, bytes(q.octets), q.room) for q in cases.writings(form))
-    yield from (case_reading(bytes(q.case), q.room) for q in cases.long_readings())
+    yield from (case_reading(bytes(q.case), q.room) for q in (*cases.respelled_readings(), *cases.long_readings()))
+    yield from (elements_read(lone.form, bytes(lone.octets), lone.room) for lone in dict.fromkeys(texts.every_place()))
     parts = itertools.chain(cases.refused_writings(), cases.long_writings())
     yield from (case_writing(q.form, q.lengths, bytes(q.octets), q.room) for q in parts)
 
@@ -216,6 +255,7 @@ def drawn() -> Iterator[Asked]:
     for form in model.FORMS:
         for text in random_texts(form, chance):
             yield reading(form, text, room_near(model.read_text(form, text), chance))
+            yield elements_read(form, text, chance.choice([0, 1, 2, 3, 9, 9]))
             target = chance.choice(model.FORMS)
             yield converting(form, target, text, room_near(model.convert_text(form, target, text), chance))
         for words in random_words(form, chance):
@@ -224,6 +264,19 @@ def drawn() -> Iterator[Asked]:
             yield case_reading(case, room_near(model.read_case(case), chance))
         for lengths, octets in random_parts(chance):
             yield case_writing(form, lengths, octets, room_near(model.write_case(form, lengths, octets), chance))
+
+
+def joined() -> Iterator[Asked]:
+    """Accepted texts alone and one behind the other, read and converted: all numbers add up, and the entries go one behind the other."""
+    chance = random.Random(SEED)
+    for form in model.FORMS:
+        for _ in range(JOINED):
+            both = [compares.spelt(form, compares.some_elements(form, chance.randrange(1, 20), chance), chance) for _ in range(2)]
+            for ask in (functools.partial(model.read_text, form), functools.partial(model.convert_text, form, form)):
+                (one, entries), (other, more), behind = map(ask, [*both, b"".join(both)])
+                assert behind == (model.ReadAnswer(*map(sum, zip(one, other))), [*entries, *more]), (form, both)
+            yield from (reading(form, text, len(text)) for text in (*both, b"".join(both)))
+            yield from (converting(form, form, text, 2 * len(text)) for text in (*both, b"".join(both)))
 
 
 def some_page(form: int, size: int, chance: random.Random) -> bytes:
@@ -257,7 +310,7 @@ def cut(form: int, page: bytes, outcomes: Sequence[model.Fed], ends: Sequence[in
         call = serials.Call(page[start:end], len(fed.words) + chance.choice([0, 0, 1, 7]), to_come == 0)
         if fed.words and chance.randrange(8) == 0:
             calls.append(call._replace(room=chance.randrange(len(fed.words))))
-            told.append(model.Fed(told[-1].carry, model.Answer(9, 0, 0, len(fed.words)), []))
+            told.append(model.Fed(told[-1].carry, model.ReadAnswer(9, 0, 0, len(fed.words)), []))
         calls.append(call)
         told.append(fed)
     after = [serials.Call(b"A", 1, False), serials.Call(b"", 0, True)]
@@ -286,9 +339,9 @@ def carries() -> Iterator[Asked]:
     chance = random.Random(SEED)
     edges = [0, 1, 2, 3, 38, 39, 40, 41, 255, 256, *(model.MOST_ENTRIES + d for d in (-1, 0, 1)), 2**32 - 1]
     edges64 = [*edges, 2**32, 2**63, 2**64 - model.MOST_ENTRIES, 2**64 - 40, 2**64 - 1]
-    fields = ["spare", "holds", "form", "stopped", "held", "number", "element", "place", "count"]
-    given = [carry for form in model.FORMS for carry in (*serials.going_carries(form), *serials.stopped_carries(form))]
-    good = list(filter(model.page_of, given))
+    fields = ["respelled", "holds", "form", "stopped", "held", "number", "element", "place", "count"]
+    kinds = (serials.going_carries, serials.stopped_carries, serials.respelled_carries)
+    good = list(filter(model.page_of, (carry for form in model.FORMS for kind in kinds for carry in kind(form))))
     for _ in range(RANDOM_CARRIES):
         carry = chance.choice(good)
         for field in chance.sample(fields, chance.choice([1, 1, 2])):
@@ -351,7 +404,7 @@ def past_the_limit() -> Asked:
     page = b"A" * model.MOST_ENTRIES
     ends = [*range(65_536, model.MOST_ENTRIES + 1, 65_536), model.MOST_ENTRIES]
     calls = [serials.Call(page[start:end], end - start, False) for start, end in zip([0, *ends], ends)]
-    refused = model.Fed(model.Carry(model.Answer(12), form=1, stopped=1), model.Answer(12), [])
+    refused = model.Fed(model.Carry(model.Answer(12), form=1, stopped=1), model.ReadAnswer(12), [])
     calls += [serials.Call(b"A", 0, False), serials.Call(b"", 0, True)]
     return feeding(1, calls, [model.fresh(1), *model.cut_page(1, page, [*ends, len(page)])][: len(ends) + 1] + [refused, refused])
 
@@ -360,7 +413,10 @@ def longest() -> Iterator[Asked]:
     """The longest input, and one entry more."""
     for size in (model.MOST_ENTRIES, model.MOST_ENTRIES + 1):
         yield reading(1, b"A" * size, size)
+        yield reading(3, b"#" * size, size)
+        yield elements_read(3, b"#" * size, 1, places=2)
         yield converting(2, 3, b"\n" * size, size)
+        yield converting(3, 1, b"$" * size, size)
         yield writing(3, [0x41] * size, size)
     yield past_the_limit()
     yield from longest_pairs()
@@ -399,7 +455,8 @@ def driven(command: Sequence[str], folder: pathlib.Path) -> int:
 
 def compare(driver: Sequence[str], folder: pathlib.Path) -> tuple[int, int]:
     """How many answers of the library are the model's, and how many are not."""
-    ends = written(itertools.chain(short(), vectors(), drawn(), pages(), carries(), pairs(), longest()), folder)
+    kinds = (short(), three_octets(), sequences(), vectors(), drawn(), joined(), pages(), carries(), pairs(), longest())
+    ends = written(itertools.chain.from_iterable(kinds), folder)
     expected = (folder / "expected").read_bytes()
     count = len(ends[0]) - 1
     passed = failed = 0
@@ -414,10 +471,13 @@ def compare(driver: Sequence[str], folder: pathlib.Path) -> tuple[int, int]:
     return passed, failed
 
 
+Numbers = Union[model.Answer, model.ReadAnswer]
+
+
 class Outcome(NamedTuple):
     """What a call answers, and all of its buffer after it."""
 
-    answer: model.Answer
+    answer: Numbers
     buffer: bytes
 
 
@@ -429,18 +489,18 @@ class Point(NamedTuple):
     converted: Optional[Outcome] = None
 
 
-def outcome_of(answer: model.Answer, put: bytes) -> Outcome:
+def outcome_of(answer: Numbers, put: bytes) -> Outcome:
     return Outcome(answer, put + UNSPELT[len(put) :])
 
 
 def point_of(form: int, codepoint: int) -> Point:
-    """Of the model; what it writes must read as this one word, and stay as it is where it is converted."""
+    """Of the model; what it writes must read as this one word, and stay as it is where it is converted: it is canonical."""
     answer, octets = model.write_text(form, [codepoint], len(UNSPELT))
     written = outcome_of(answer, bytes(octets))
     if answer.number:
         return Point(written)
-    read = outcome_of(model.Answer(0, 1, answer.count, 1), words_octets([codepoint]))
-    return Point(written, read, outcome_of(model.Answer(0, 1, answer.count, answer.count), bytes(octets)))
+    read = outcome_of(model.ReadAnswer(0, 1, answer.count, 1), words_octets([codepoint]))
+    return Point(written, read, outcome_of(model.ReadAnswer(0, 1, answer.count, answer.count), bytes(octets)))
 
 
 def points_of(form: int) -> list[Point]:
@@ -455,8 +515,8 @@ def points_told(records: bytes) -> list[Point]:
     for first, last, *rest in POINTS.iter_unpack(records[: len(records) // POINTS.size * POINTS.size]):
         if first != len(told):
             break
-        written, read, converted = (model.Answer(*rest[at : at + 4]) for at in (0, 4, 8))
-        spelling, same, words = rest[12:]
+        written, read, converted = model.Answer(*rest[:4]), model.ReadAnswer(*rest[4:9]), model.ReadAnswer(*rest[9:14])
+        spelling, same, words = rest[14:]
         others = [] if written.number else [Outcome(read, words), Outcome(converted, same)]
         told += [Point(Outcome(written, spelling), *others)] * (last - first + 1)
     return told
@@ -530,6 +590,7 @@ def main(folder: pathlib.Path, emulator: Sequence[str]) -> int:
     results += [examples.check_readme("Read a Latvian card")]
     results += [examples.check_compare([*emulator, str(folder / "compare-c")], folder)]
     results += [examples.check_readme("What changed between two transfers")]
+    results += [examples.check_respelled([*emulator, str(folder / "respelled-c")], folder), examples.check_readme("What was respelled")]
     if (folder / "convert-rust").exists():
         results += [examples.check("Rust", [*emulator, str(folder / "convert-rust")], folder)]
         results += [examples.check_own([*emulator, str(folder / "document-rust")]), examples.check_readme("Use it from Rust")]

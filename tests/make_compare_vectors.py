@@ -48,19 +48,10 @@ def meaning(form: int, text: Sequence[int]) -> list[Words]:
     return [piece.words for piece in pieces]
 
 
-def every_spelling(form: int) -> Iterator[bytes]:
-    """Every spelling of every character, then of every underlined one."""
-    characters = [*((octet,) for octet in model.PRIMARY[form]), *(texts.supplementary(form, octet) for octet in model.SPACING[form])]
-    characters += [(*texts.supplementary(form, mark), follower) for mark, follower in model.SQUARES]
-    yield from map(bytes, characters)
-    if form == 3:
-        yield from (bytes((model.UNDERLINE, *character)) for character in characters)
-
-
 def by_words(form: int) -> dict[Words, list[bytes]]:
     """The spellings of each character, underlined or not."""
     found: dict[Words, list[bytes]] = {}
-    for spelling in every_spelling(form):
+    for spelling in model.every_spelling(form):
         found.setdefault(meaning(form, spelling)[0], []).append(spelling)
     return found
 

@@ -6,8 +6,9 @@
 
 All of it comes from the model of the documents (model.py), never from our own code. A file has a heading and a line a vector: octets
 or words, a place, and the answer there. An answer is `00E9 > 02`, an element's words and the place after it; `!03 00 01`, a
-refusal's number in decimal, place and count; or `.`, none is left. Where words are asked, the element's spelling in each form
-follows, `-` where the form does not hold it. Everything else is in hex.
+refusal's number in decimal, place and count; or `.`, none is left. Where octets are read, 00 follows the place if they are the element's
+canonical spelling, and 01 if they are not. Where words are asked, the element's spelling in each form follows, `-` where the form does not
+hold it. Everything else is in hex.
 """
 from __future__ import annotations
 
@@ -119,6 +120,20 @@ def counted_sequences() -> Iterator[Octets]:
                 yield sequence(parameters, rest)
 
 
+# Ways to spell a value: the empty one, without zeros before it, explicit zeros, and zeros before it.
+VALUE_SPELLINGS = ["", "5", "50", "500", "0", "00", "000", "05", "005", "050", "0500"]
+
+
+def spelt_sequences() -> Iterator[Octets]:
+    """Each number of values with each of them in turn spelt in each way, among canonical ones and among ones that are not."""
+    for count in range(1, model.MOST_VALUES + 1):
+        for at in range(count):
+            for value in VALUE_SPELLINGS:
+                for other in ("", "7", "0"):
+                    values = ";".join([other] * at + [value] + [other] * (count - at - 1))
+                    yield from (sequence(values, rest) for rest in ("m", " L"))
+
+
 def filled_parameters(size: int) -> Iterator[str]:
     """Parameters of so many octets that stay within the values' limits: zeros before one value, and zeros spread over eight."""
     yield "0" * (size - 1) + "5"
@@ -207,6 +222,7 @@ def random_octets(form: int, chance: random.Random) -> Iterator[Octets]:
 
 # Texts to read at a place in the middle, at the end and past it.
 MIDDLES = "41 41C265 C2194265 C2C2 41194265CC41 0ACCC26541 419B343B6D0D 9B349B346D CCCC41 1919426541 E0A4".split()
+MIDDLES += "C12060C320 19412060194420 CC2323A6CCA6CC24 9B306D9B6D9B3B30316D9B30206D".split()
 
 
 def places(length: int) -> list[int]:
@@ -372,9 +388,14 @@ def place_text(place: int) -> str:
     return f"{place:02X}"
 
 
+def element_text(words: Sequence[int], after: int) -> str:
+    return f"{words_text(words)} > {place_text(after)}"
+
+
 def step_text(step: model.Step) -> str:
     if step[0] == "element":
-        return f"{words_text(step[1])} > {place_text(step[2])}"
+        _, words, after, canonical = step
+        return f"{element_text(words, after)} {place_text(not canonical)}"
     if step[0] == "refused":
         return f"!{step[1]:02} {place_text(step[2])} {place_text(step[3])}"
     return "."
@@ -398,7 +419,8 @@ def wording_text(words: Sequence[int], at: int) -> str:
         return step_text(model.refused_at(10, at, 0))
     if step[0] == "end":
         return step_text(model.END)
-    return " ".join([step_text(step), *(spelling_text(form, step[1]) for form in model.FORMS)])
+    _, element, after = step
+    return " ".join([element_text(element, after), *(spelling_text(form, element) for form in model.FORMS)])
 
 
 def wording_line(wording: Wording) -> str:
@@ -415,6 +437,7 @@ def files() -> dict[str, list[str]]:
     """The lines of each file, by its name, without the heading."""
     found = {f"read_{form}.csv": unlike(reading_line(form, reading) for reading in readings(form)) for form in model.FORMS}
     found["sequences.csv"] = unlike(reading_line(3, reading) for reading in sequence_readings())
+    found["spelt_sequences.csv"] = unlike(reading_line(3, Reading(octets)) for octets in spelt_sequences())
     found["characters.csv"] = unlike(wording_line(wording) for wording in code_points())
     found["words.csv"] = unlike(wording_line(wording) for wording in wordings())
     return found

@@ -31,7 +31,7 @@ def listing(octets: bytes) -> str:
         return "too long\n"
     answer, _ = model.read_case(octets)
     if answer.number != 0:
-        return "refused {0} page {4} element {1} place {2} count {3}\n".format(*answer)
+        return "refused {number} page {page} element {element} place {place} count {count}\n".format(**answer._asdict())
     found = model.case_of(octets)
     assert not isinstance(found, int)
     lines = [f"TLX {found.form} pages {len(found.pages)}\n"]
@@ -92,8 +92,9 @@ def main() -> int:
     # The numbers that a case can meet, each met by one at least.
     numbers = {model.read_case(octets)[0].number for octets in CASES.values() if len(octets) <= MOST_INPUT}
     assert numbers == {0, *range(1, 9), 11, 13, 14, 15}
-    # One refusal has five different numbers, so that none can stand in another's place.
-    assert len(set(model.read_case(CASES["refused-on-page-2"])[0])) == 5
+    # One refusal has five different numbers, and none of them is the sixth's 0, so that none can stand in another's place.
+    answer, _ = model.read_case(CASES["refused-on-page-2"])
+    assert answer.respelled == 0 and len(set(answer)) == 6
     check = sys.argv[1:] == ["--check"]
     wrong = 0
     for path, octets in files().items():

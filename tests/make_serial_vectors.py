@@ -6,10 +6,10 @@
 
 All of it comes from the model of the documents (model.py), never from our own code. A file has a heading and a line a vector:
 where a page starts, the calls, and the outcome of each. A page starts with the form that it is made fresh with, and then making fresh
-is the first outcome; or, in carry.csv, with the fields of a carry, `held` first. A call is its piece, the room that is lent, and 1 if the
-page ends; `;` stands between calls. An outcome is the four numbers of the answer and how many words were handed out; these words; and
-the carry that the call leaves (the four numbers, `spare`, `holds`, `form`, `stopped`, and `held` up to its last entry that is not 0), with
-`/` between the three and `;` behind. The first number of an answer that is expected is in decimal, everything else in hex.
+is the first outcome; or, in carry.csv and respelled.csv, with the fields of a carry, `held` first. A call is its piece, the room that is
+lent, and 1 if the page ends; `;` stands between calls. An outcome is the five numbers of the answer and how many words were handed out;
+these words; and the carry that the call leaves (the five numbers, `holds`, `form`, `stopped`, and `held` up to its last entry that is not
+0), with `/` between the three and `;` behind. The first number of an answer that is expected is in decimal, everything else in hex.
 """
 from __future__ import annotations
 
@@ -71,11 +71,12 @@ def pairs(form: int) -> Iterator[bytes]:
 
 
 def pages(form: int, chance: random.Random) -> Iterator[bytes]:
-    """Every kind of element between two others, one page of them all, and some drawn by chance."""
+    """Every kind of element between two others, one page of them all, what is counted by hand as respelled, and some drawn by chance."""
     kinds = elements(form)
     for element in kinds:
         yield b"A" + element + kinds[-1][:2] if element != kinds[-1] else b"A" + element + b"B"
     yield b"".join(kinds)
+    yield from (bytes.fromhex(text) for each, text, _ in model.RESPELLED if each == form and text)
     for size in (1, 2, 3, 16, 17, 24, 40):
         yield bytes(texts.some_text(form, size, chance))
 
@@ -191,9 +192,9 @@ def form_vectors() -> Iterator[Vector]:
 # Carries that are given outright.
 
 
-def going(form: int, elements: int, taken: int, words: int, opened: bytes = b"", past: int = 0) -> model.Carry:
+def going(form: int, elements: int, taken: int, words: int, opened: bytes = b"", past: int = 0, respelled: int = 0) -> model.Carry:
     held = (*opened, *[past] * (model.MOST_HELD - len(opened)))
-    return model.Carry(model.Answer(0, elements, taken, words), 0, len(opened), form, 0, held)
+    return model.Carry(model.Answer(0, elements, taken, words), respelled, len(opened), form, 0, held)
 
 
 def stopped(form: int, *numbers: int) -> model.Carry:
@@ -224,7 +225,6 @@ def going_carries(form: int) -> Iterator[model.Carry]:
     yield from (base._replace(holds=holds) for holds in (0, len(openings(form)[0]) + 1, 9, 10))
     wide = going(form, 3, 90, 3, b"\x9B" + b"0" * 38)
     yield from (wide._replace(holds=holds) for holds in (0, 1, 2, 38, 39, 40, 41, 90, 91, 256, 2**32 - 1))
-    yield from (base._replace(spare=spare) for spare in (1, 2**32 - 1))
     yield from (base._replace(stopped=stopped) for stopped in (1, 2, 256, 2**32 - 1))
     yield from (base._replace(form=wrong) for wrong in texts.WRONG_FORMS)
     yield from (base._replace(answer=base.answer._replace(number=number)) for number in (*range(1, 17), 255, 2**32 - 1))
@@ -246,9 +246,34 @@ def stopped_carries(form: int) -> Iterator[model.Carry]:
     for number in (0, 1, 4, 8):
         yield from (stopped(form, number, *sums) for sums in [(5, LIMIT, LIMIT), (5, LIMIT + 1, 5), (5, LIMIT - 1, LIMIT + 1)])
     for base in (stopped(form, 0, 2, 3, 3), stopped(form, 3, 1, 2, 3), stopped(form, 12, 0, 0, 0)):
-        yield from (base._replace(**{field: value}) for field, value in [("spare", 1), ("holds", 1), ("holds", 40), ("stopped", 2)])
+        yield from (base._replace(**{field: value}) for field, value in [("holds", 1), ("holds", 40), ("stopped", 2)])
         yield from (base._replace(form=wrong) for wrong in texts.WRONG_FORMS)
         yield base._replace(held=(0xC2,) * model.MOST_HELD)
+
+
+def respelled_carries(form: int) -> Iterator[model.Carry]:
+    """As many elements that were not canonical as elements, and one more; beside a refusal none, and one."""
+    opened = openings(form)[0]
+    for elements in (0, 1, 3, 9):
+        each = sorted({0, 1, max(1, elements) - 1, elements, elements + 1, 2**32 - 1})
+        bases = [going(form, elements, elements + 8, 8), going(form, elements, elements + len(opened), 0, opened)]
+        bases += [stopped(form, 0, elements, elements, elements), stopped(form, 0, elements, LIMIT, 0)]
+        bases += [stopped(form, number, elements, elements + 2, elements + 3) for number in range(1, 9)]
+        yield from (base._replace(respelled=respelled) for base in bases for respelled in each)
+    yield from (stopped(form, number, 0, 0, 0)._replace(respelled=respelled) for number in (9, 10, 11, 12, 13) for respelled in (0, 1))
+
+
+def respelled_vectors() -> Iterator[Vector]:
+    """These carries; and a number that goes on from a carry's, is repeated after the end, and is 0 at a fault and with short room."""
+    for form in model.FORMS:
+        for carry in respelled_carries(form):
+            yield Vector(carry, (Call(b"A", 1, False), Call(b"", 0, True), Call(b"", 0, False)))
+        for element in map(bytes, texts.respellable(form)):
+            opened = element[:1] if len(element) > 1 else b""
+            for carry in (going(form, 5, 9, 5, respelled=3), going(form, 7, 8, 7, opened, respelled=7)):
+                rest, fault = element[carry.holds :], element + b"\x1B"
+                yield Vector(carry, (Call(rest, 0, False), Call(rest + element[:1], 9, False), Call(element[1:], 9, True), AFTER[1]))
+                yield Vector(carry, (Call(rest + b"A", 9, False), Call(fault, 0, False), Call(fault, 9, False), AFTER[1]))
 
 
 def carry_vectors() -> Iterator[Vector]:
@@ -273,12 +298,12 @@ def numbers_text(numbers: Iterable[int]) -> str:
 
 
 def carry_text(carry: model.Carry) -> str:
-    fields = numbers_text([carry.spare, carry.holds, carry.form, carry.stopped])
+    fields = numbers_text([carry.respelled, carry.holds, carry.form, carry.stopped])
     return f"{number_text(carry.answer)} {fields} {held_text(carry.held)}"
 
 
-def number_text(answer: model.Answer) -> str:
-    """The four numbers; `**` for a first one over two digits."""
+def number_text(answer: Union[model.Answer, model.ReadAnswer]) -> str:
+    """The four numbers, or five; `**` for a first one over two digits."""
     first = f"{answer.number:02}" if answer.number < 100 else "**"
     return f"{first} {numbers_text(answer[1:])}"
 
@@ -290,7 +315,7 @@ def outcome_text(fed: model.Fed) -> str:
 def start_text(start: Union[int, model.Carry]) -> str:
     if isinstance(start, int):
         return f"{start:X}"
-    fields = [*start.answer, start.spare, start.holds, start.form, start.stopped]
+    fields = [*start.answer, start.respelled, start.holds, start.form, start.stopped]
     return ",".join([held_text(start.held), *(f"{field:X}" for field in fields)])
 
 
@@ -331,14 +356,15 @@ def files() -> dict[str, list[Vector]]:
     found.update({f"room_{form}.csv": room_vectors(form) for form in model.FORMS})
     found["form.csv"] = form_vectors()
     found["carry.csv"] = carry_vectors()
+    found["respelled.csv"] = respelled_vectors()
     return {name: list(dict.fromkeys(vectors)) for name, vectors in found.items()}
 
 
-CARRY_HEADING = "held,number,element,place,count,spare,holds,form,stopped,calls,answer"
+CARRY_HEADING = "held,number,element,place,count,respelled,holds,form,stopped,calls,answer"
 
 
 def heading(name: str) -> str:
-    return CARRY_HEADING if name == "carry.csv" else "form,calls,answer"
+    return CARRY_HEADING if name in ("carry.csv", "respelled.csv") else "form,calls,answer"
 
 
 def written() -> dict[pathlib.Path, str]:

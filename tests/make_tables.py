@@ -55,7 +55,7 @@ def pages(of: str, numbers: dict[int, int], digits: int) -> Iterator[str]:
 
 def code(form: int, octet: int) -> int:
     sort = model.sort(form, octet)
-    if sort.kind == "graphic":
+    if sort.kind == "graphic" and model.spell(form, sort.value) == [octet]:
         return sort.value
     return NO_CHARACTER + (ROWS.index(sort.value) if sort.kind == "mark" else len(ROWS))
 
@@ -71,7 +71,8 @@ NAMES = {1: "EIGHT", 2: "SEVEN", 3: "BASIC"}
 
 
 def codes_file() -> Iterator[str]:
-    yield "// What each octet is by itself in a form: a spacing character; or, counted from 2^15, the row of a mark, and 13 where it is neither."
+    yield "// What each octet is by itself in a form: a spacing character, where the octet is its canonical spelling; or, counted from 2^15, the"
+    yield "// row of a mark, and 13 where it is neither."
     for form in model.FORMS:
         yield ""
         yield f"// Form {form}."

@@ -5,10 +5,11 @@
     make_text_vectors.py --check    only compares them, with exit status 1 where one is not as it would be written
 
 All of it comes from the model of the documents (model.py), never from our own code. A file has a heading and a line a vector: the
-form, the octets or words, the room that is lent, the four numbers of the answer (`03 02 05 06`, the first in decimal), and the
-entries that it puts. A conversion has two forms, with a space between. Where one element is read, a place stands for the room, and
-the answer is `00E9 > 02`, its words and the place after it; `!03 00 01`, a refusal's number in decimal, place and count; or `.`,
-none is left. Everything else is in hex.
+form, the octets or words, the room that is lent, the numbers of the answer, and the entries that it puts. The numbers are four where words
+are written, and five of a reading or a conversion (`00 02 05 06 01`, the first in decimal). A conversion has two forms, with a space
+between. Where one element is read into words, its place goes before the room. Where one is read by itself, its place stands for the
+room, and the answer is `00E9 > 02 00`, its words, the place after it, and 01 if it was not canonical; `!03 00 01`, a refusal's number in
+decimal, place and count; or `.`, none is left. Everything else is in hex.
 
 The program runs texts that the GNU C library decoded too, which make_peer_texts.py writes: run that first.
 """
@@ -17,7 +18,7 @@ from __future__ import annotations
 import pathlib
 import random
 import sys
-from typing import Callable, Iterable, Iterator, NamedTuple, Optional, Tuple
+from typing import Callable, Iterable, Iterator, NamedTuple, Optional, Tuple, Union
 
 sys.dont_write_bytecode = True
 import make_peer_texts
@@ -38,7 +39,7 @@ FAR = 0xFFFFFFFF  # a place past the end of any text
 WRONG_FORMS = (0, 4, 257, 2**32 - 1)
 Octets = Tuple[int, ...]
 Words = Tuple[int, ...]
-Outcome = Tuple[model.Answer, list]
+Outcome = Tuple[Union[model.Answer, model.ReadAnswer], list]
 
 
 def octets_of(text: str) -> Octets:
@@ -212,6 +213,45 @@ def long_texts(form: int, chance: random.Random, target: Optional[int] = None) -
 DAMAGED_LONG = 2  # so many of the long texts are damaged too
 
 
+# Texts of which some elements are not canonical.
+
+SPELLINGS = {form: [tuple(spelling) for spelling in model.every_spelling(form)] for form in model.FORMS}
+SEQUENCES = "9B6D 9B306D 9B346D 9B30346D 9B3B6D 9B303B6D 9B3B306D 9B303B306D 9B3B3030356D 9B31303B30206D 9B3030302F7E"
+RUN = 36  # letters, or half as many pairs
+
+
+def is_canonical(form: int, element: Octets) -> bool:
+    return model.read_text(form, element)[0].respelled == 0
+
+
+def respellable(form: int) -> list[Octets]:
+    """Elements that are not canonical."""
+    elements = [*SPELLINGS[form], *(map(octets_of, SEQUENCES.split()) if form == 3 else [])]
+    return [element for element in elements if not is_canonical(form, element)]
+
+
+def in_runs(form: int, element: Octets) -> Iterator[Octets]:
+    """The element at each place of a run of letters, and at some of a run of pairs; a sequence at some of both."""
+    pair = (*supplementary(form, 0xC2), 0x65)
+    step = 6 if element[0] == model.SEQUENCE_START else 1
+    yield from ((0x61,) * before + element + (0x62,) * (RUN - before) for before in range(0, RUN + 1, step))
+    yield from (pair * before + element + pair * (RUN // 2 - before) for before in range(0, RUN // 2 + 1, 3 * step))
+
+
+def respelled_texts(form: int, chance: random.Random) -> Iterator[Octets]:
+    """What is counted by hand; every octet and every pair alone; what is not canonical in runs, many times over, and among others."""
+    yield from (octets_of(text) for each, text, _ in model.RESPELLED if each == form)
+    yield from ((octet,) for octet in range(256))
+    yield from SPELLINGS[form]
+    yield from map(octets_of, SEQUENCES.split())
+    others = respellable(form)
+    for element in others:
+        yield from in_runs(form, element)
+        yield element * (RUN // len(element))
+    for size in range(2, 42):
+        yield sum((chance.choice([chance.choice(others), some_element(form, chance)]) for _ in range(size)), ())[:MOST_ENTRIES]
+
+
 # Words.
 
 PAIR = model.SEQUENCE_WORD + 256 * 0x6D + 2  # the head of a sequence of two values
@@ -372,6 +412,12 @@ def one_room(ask: Ask, forms: Tuple[int, ...], entries: tuple, most: int, chance
     return Question(forms, entries, chance.choice([enough, enough, enough, max(0, enough - 1), 0, most]))
 
 
+def enough_room(ask: Ask, forms: Tuple[int, ...], entries: tuple, most: int) -> Question:
+    """With just enough room; a refusal has the most."""
+    size = needed(ask(forms, entries, None))
+    return Question(forms, entries, most if size is None else size)
+
+
 def wrong_forms(entries: Iterable[tuple], most: int) -> Iterator[Question]:
     """A form that is none, with entries that are empty, valid or refused, and with room or none."""
     for form in WRONG_FORMS:
@@ -406,6 +452,7 @@ def readings(form: int) -> Iterator[Question]:
     hurt = damaged_texts([*short, *long[:DAMAGED_LONG]], chance)
     for text in [*octet_texts(), *whole_texts(form), *refused, *hurt]:
         yield one_room(reading, (form,), text, most, chance)
+    yield from (enough_room(reading, (form,), text, most) for text in respelled_texts(form, chance))
     yield from wrong_forms([(), short[0], short[1], refused_octets(form)[0]], most)
 
 
@@ -451,12 +498,23 @@ def conversions(source: int) -> Iterator[Question]:
     yield from wrong_pairs(source, [(), (0x41,), refused_octets(source)[0]], most)
 
 
+def respellings(source: int) -> Iterator[Question]:
+    """Conversions of texts of which some elements are not canonical; a fourth of those that the target lacks something of."""
+    chance = random.Random(SEED)
+    for target in model.FORMS:
+        for number, text in enumerate(respelled_texts(source, chance)):
+            answer, _ = model.convert_text(source, target, text)
+            if answer.number != 10 or number % 4 == 0:
+                yield enough_room(converting, (source, target), text, MOST_OCTETS_PUT)
+
+
 class Lone(NamedTuple):
-    """One element that is read: the form, the text, and the place."""
+    """One element that is read: the form, the text, the place, and the room for its words."""
 
     form: int
     octets: Octets
     at: int
+    room: int = 0
 
 
 def places(length: int) -> list[int]:
@@ -469,6 +527,7 @@ def lone_texts(form: int, chance: random.Random) -> Iterator[Octets]:
     yield from (text for _, text in DOCUMENTED)
     yield from (some_text(form, size, chance) for size in (3, 8, 16, 24))
     yield from around_texts(form, refused_octets(form)[:12], chance)
+    yield from (octets_of(text) for each, text, _ in model.RESPELLED if each == form)
 
 
 def lone_readings() -> Iterator[Lone]:
@@ -483,6 +542,23 @@ def lone_readings() -> Iterator[Lone]:
         for text in ((), (0x41,), octets_of("A4"), octets_of("41C265")):
             for at in places(len(text)):
                 yield Lone(form, text, at)
+
+
+def every_place() -> Iterator[Lone]:
+    """The texts of these, each to be asked at all its places with a room of its own."""
+    chance = random.Random(SEED)
+    for form in model.FORMS:
+        for text in [*lone_texts(form, chance), *refused_octets(form), *whole_texts(form)]:
+            yield Lone(form, text, 0, chance.choice([0, 1, 2, 9]))
+    yield from (Lone(form, octets_of("41C265"), 0, 1) for form in WRONG_FORMS)
+
+
+def into_rooms() -> Iterator[Lone]:
+    """Each of these with just enough room, one short, one over, or none; where no words are put, with none and with the most."""
+    for lone in lone_readings():
+        answer, words = model.read_one(*lone[:3])
+        edges = [len(words), len(words) - 1, len(words) + 1] if words else [MOST_WORDS_PUT]
+        yield from (lone._replace(room=room) for room in sorted({0, *edges}))
 
 
 # Lines.
@@ -504,7 +580,8 @@ def place_text(place: int) -> str:
     return f"{place:04X}" if place < 0x10000 else f"{place:016X}"
 
 
-def answer_text(answer: model.Answer) -> str:
+def answer_text(answer: Union[model.Answer, model.ReadAnswer, model.CaseAnswer]) -> str:
+    """All its numbers, the first in decimal."""
     return f"{answer.number:02} {' '.join(place_text(number) for number in answer[1:])}"
 
 
@@ -516,7 +593,8 @@ def lone_step(form: int, octets: Octets, at: int) -> model.Step:
 
 def step_text(step: model.Step) -> str:
     if step[0] == "element":
-        return f"{words_text(step[1])} > {place_text(step[2])}"
+        _, words, after, canonical = step
+        return f"{words_text(words)} > {place_text(after)} {place_text(not canonical)}"
     if step[0] == "refused":
         return f"!{step[1]:02} {place_text(step[2])} {place_text(step[3])}"
     return "."
@@ -545,8 +623,17 @@ def converting_line(question: Question) -> str:
 
 
 def lone_line(lone: Lone) -> str:
-    assert len(lone.octets) <= MOST_ENTRIES
-    return f"{lone.form:X},{octets_text(lone.octets)},{lone.at:02X},{step_text(lone_step(*lone))}"
+    form, octets, at, _ = lone
+    assert len(octets) <= MOST_ENTRIES
+    return f"{form:X},{octets_text(octets)},{at:02X},{step_text(lone_step(form, octets, at))}"
+
+
+def into_line(lone: Lone) -> str:
+    form, octets, at, room = lone
+    assert len(octets) <= MOST_ENTRIES and room <= MOST_WORDS_PUT
+    answer, put = model.read_one(*lone)
+    assert len(put) == (answer.count if answer.number == 0 else 0)
+    return f"{form:X},{octets_text(octets)},{at:02X},{room:02X},{answer_text(answer)},{words_text(put)}"
 
 
 def unlike(lines: Iterable[str]) -> list[str]:
@@ -559,7 +646,9 @@ def files() -> dict[str, list[str]]:
     found = {f"read_{form}.csv": unlike(map(reading_line, readings(form))) for form in model.FORMS}
     found.update({f"write_{form}.csv": unlike(map(writing_line, writings(form))) for form in model.FORMS})
     found.update({f"convert_{form}.csv": unlike(map(converting_line, conversions(form))) for form in model.FORMS})
+    found.update({f"respelled_{form}.csv": unlike(map(converting_line, respellings(form))) for form in model.FORMS})
     found["element.csv"] = unlike(map(lone_line, lone_readings()))
+    found["into.csv"] = unlike(map(into_line, into_rooms()))
     return found
 
 
@@ -567,7 +656,9 @@ HEADINGS = {
     "read": "form,octets,room,answer,words",
     "write": "form,words,room,answer,octets",
     "convert": "forms,octets,room,answer,octets",
+    "respelled": "forms,octets,room,answer,octets",
     "element": "form,octets,place,answer",
+    "into": "form,octets,place,room,answer,words",
 }
 
 
@@ -583,18 +674,20 @@ def check_limit() -> None:
     over = [0x1B] * (model.MOST_ENTRIES + 1)
     assert len(over) == 1_048_577
     for form in model.FORMS:
-        assert model.read_text(form, over, 0) == (model.Answer(12), [])
+        assert model.read_text(form, over, 0) == (model.ReadAnswer(12), [])
         assert model.write_text(form, over, 0) == (model.Answer(12), [])
         assert lone_step(form, over, 0) == lone_step(form, over, FAR) == model.refused_at(12, 0, 0)
-        assert all(model.convert_text(form, target, over, 0) == (model.Answer(12), []) for target in model.FORMS)
-        assert model.read_text(form, over[1:]) == (model.Answer(2), [])
+        assert model.read_one(form, over, 0, 0) == model.read_one(form, over, FAR, 0) == (model.ReadAnswer(12), [])
+        assert all(model.convert_text(form, target, over, 0) == (model.ReadAnswer(12), []) for target in model.FORMS)
+        assert model.read_text(form, over[1:]) == (model.ReadAnswer(2), [])
         assert model.write_text(form, over[1:]) == (model.Answer(10), [])
     for form in WRONG_FORMS:
-        assert model.read_text(form, over) == model.write_text(form, over) == (model.Answer(11), [])
-        assert model.convert_text(form, 1, over) == model.convert_text(1, form, over) == (model.Answer(11), [])
+        assert model.read_text(form, over) == model.read_one(form, over, 0) == (model.ReadAnswer(11), [])
+        assert model.write_text(form, over) == (model.Answer(11), [])
+        assert model.convert_text(form, 1, over) == model.convert_text(1, form, over) == (model.ReadAnswer(11), [])
         assert lone_step(form, over, 0) == model.refused_at(11, 0, 0)
     most = [0x41] * model.MOST_ENTRIES
-    assert model.read_text(1, most, 0) == (model.Answer(9, 0, 0, 1_048_576), [])
+    assert model.read_text(1, most, 0) == (model.ReadAnswer(9, 0, 0, 1_048_576), [])
     assert model.write_text(1, most) == (model.Answer(0, 1_048_576, 1_048_576, 1_048_576), most)
 
 
@@ -605,7 +698,8 @@ def texts() -> dict[pathlib.Path, str]:
     for name, lines in files().items():
         text = "".join(each + "\n" for each in [heading(name), *lines])
         assert len(text) < MOST_FILE, (name, len(text))
-        assert max(len(each.split(",", 3)[3]) for each in lines) <= MOST_ANSWER
+        asked = heading(name).split(",").index("answer")
+        assert max(len(each.split(",", asked)[asked]) for each in lines) <= MOST_ANSWER
         found[CRATE / "data" / name] = text
         report.append(f"{name}: {len(lines)} vectors, 0 wrong\n")
     report += [make_peer_texts.report_line(decoder) + "\n" for decoder in make_peer_texts.DECODERS]

@@ -6,9 +6,9 @@
 
 All of it comes from the model of the documents (model.py), never from our own code. A file has a heading and a line a vector.
 
-- Reading: the case, the room that is lent, the four numbers of the answer and the page beside them (`03 02 05 06 01`, the first in
+- Reading: the case, the room that is lent, the five numbers of the answer and the page beside them (`03 02 05 06 00 01`, the first in
   decimal), and the words that it puts.
-- One page: the case, the page's number, and the four numbers of its answer, or `.`, no such page.
+- One page: the case, the page's number, and the five numbers of its answer, or `.`, no such page.
 - The header: the case, and its form and how many pages, or `!13`, a refusal's number in decimal.
 - Writing: the form, the lengths, the page octets, the room, the four numbers of the answer, and the case that it puts.
 
@@ -37,6 +37,7 @@ from make_text_vectors import (
     octets_text,
     place_text,
     refused_octets,
+    respellable,
     some_element,
     some_size,
     some_text,
@@ -280,6 +281,25 @@ def cut_apart(form: int, chance: random.Random) -> Iterator[Octets]:
         yield case_of(form, [element, element, (*some_element(form, chance), *element)])
 
 
+# Pages with elements that are not canonical.
+
+
+def respelled_cases(form: int, chance: random.Random) -> Iterator[Octets]:
+    """Another number of them on each page, in both orders; on one page alone; what is counted by hand; among others; and before a fault."""
+    others = respellable(form)
+    for element in others:
+        counted = [element * count for count in (3, 0, 1, 5)]
+        yield from (case_of(form, counted), case_of(form, counted[::-1]), case_of(form, [element, (0x41,), *counted[:1]]))
+        yield from (case_of(form, changed(((0x41,),) * 3, page, element)) for page in range(3))
+        yield case_of(form, [element, element + octets_of("1B"), element])
+    yield case_of(form, [octets_of(text) for each, text, _ in model.RESPELLED if each == form])
+    for count in (1, 2, 3, 4, 5, 6) * 3:
+        yield case_of(form, [page + chance.choice(others) + some_element(form, chance) for page in some_pages(form, count, chance)])
+    # Each element at an end of its page: no page reads what stands on the next.
+    for first, second in zip(others, others[1:]):
+        yield case_of(form, [(0x41, *first), (*second, 0x42)])
+
+
 # Reading.
 
 
@@ -359,6 +379,12 @@ def case_lists(form: int) -> Tuple[list[Octets], list[Octets]]:
     return whole, [*large, *faults, *hurt]
 
 
+def respelled_readings() -> Iterator[Reading]:
+    for form in model.FORMS:
+        for case in respelled_cases(form, random.Random(SEED)):
+            yield from rooms(case)
+
+
 def readings(form: int) -> Iterator[Reading]:
     chance = random.Random(SEED)
     whole, others = case_lists(form)
@@ -393,6 +419,12 @@ def pages_asked(form: int) -> Iterator[Page]:
     faults = [*list(faulty(form, chance))[::2], *faulty_late(form, chance), *cut_apart(form, chance)]
     for case in [*whole, *all_at_once(form), *faults, *chance.sample(others, 100)]:
         yield from (Page(case, page) for page in page_numbers(case))
+
+
+def respelled_pages() -> Iterator[Page]:
+    for form in model.FORMS:
+        for case in respelled_cases(form, random.Random(SEED)):
+            yield from (Page(case, page) for page in page_numbers(case)[:-3])
 
 
 def headers_asked() -> Iterator[Octets]:
@@ -529,7 +561,7 @@ def of_letters(sizes: Iterable[int]) -> list[Octets]:
 
 
 def long_cases(form: int) -> Iterator[Octets]:
-    """Accepted; too short and too long; with a fault on the second page, and with an element that the first page cuts off."""
+    """Accepted; too short, too long; with a fault on the second page, an element that the first page cuts off, and few canonical ones."""
     for sizes in LONG_SIZES[form]:
         case = case_of(form, of_letters(sizes))
         yield from (case, case[:-1], case + (0x41,))
@@ -537,6 +569,8 @@ def long_cases(form: int) -> Iterator[Octets]:
     yield case_of(form, [page, (0x42,) * 299 + octets_of("1B")])
     begun = octets_of(BEGUN[form].split()[0])
     yield case_of(form, [page[len(begun) :] + begun, octets_of("65")])
+    if form == 3:
+        yield case_of(form, [(0x23,) * LONGEST, (0xA6,), (0x24,) * 300])
     yield laid_out(form, 2, (LONGEST, 4), (0x41,) * 3)
     yield laid_out(form, 2, (LONGEST, 0x8000), (0x41,) * 0x7FFF)
 
@@ -575,15 +609,11 @@ def runs_text(entries: Iterable[int]) -> str:
     return words_text(number for run in runs for number in run)
 
 
-def case_answer_text(answer: model.CaseAnswer) -> str:
-    return f"{answer_text(model.Answer(*answer[:4]))} {place_text(answer.page)}"
-
-
 def reading_text(reading: Reading, octets_said: Said, words_said: Said) -> str:
     case, room = reading
     answer, put = model.read_case(case, room)
     assert len(put) == (answer.count if answer.number == 0 else 0)
-    return f"{octets_said(case)},{place_text(room)},{case_answer_text(answer)},{words_said(put)}"
+    return f"{octets_said(case)},{place_text(room)},{answer_text(answer)},{words_said(put)}"
 
 
 def reading_line(reading: Reading) -> str:
@@ -642,6 +672,8 @@ def files() -> dict[str, list[str]]:
     """The lines of each file, by its name, without the heading."""
     found = {f"read_{form}.csv": unlike(map(reading_line, readings(form))) for form in model.FORMS}
     found.update({f"page_{form}.csv": unlike(map(page_line, pages_asked(form))) for form in model.FORMS})
+    found["read_respelled.csv"] = unlike(map(reading_line, respelled_readings()))
+    found["page_respelled.csv"] = unlike(map(page_line, respelled_pages()))
     found["header.csv"] = unlike(map(header_line, headers_asked()))
     found.update({f"write_{form}.csv": unlike(map(writing_line, writings(form))) for form in model.FORMS})
     found["write_refused.csv"] = unlike(map(writing_line, refused_writings()))
@@ -670,6 +702,18 @@ def check_faults() -> None:
         answers = [model.read_case(case)[0] for case in faulty(form, random.Random(SEED))]
         found = {(answer.number, answer.page) for answer in answers}
         assert found >= set(itertools.product(numbers[form], range(3))), (form, found)
+
+
+def check_respelled() -> None:
+    """An accepted case has the sum of its pages' numbers, and a refused one 0, though some of its pages have more."""
+    for form in model.FORMS:
+        sums = 0
+        for case in respelled_cases(form, random.Random(SEED)):
+            answer, _ = model.read_case(case)
+            pages = [model.page_elements(case, page) for page in range(len(model.case_of(case).pages))]
+            assert answer.respelled == (0 if answer.number else sum(page.respelled for page in pages)), (form, case)
+            sums += sum(page.respelled > 0 for page in pages) > 1
+        assert sums > 20, (form, sums)
 
 
 def texts() -> dict[pathlib.Path, str]:
@@ -705,6 +749,7 @@ def main(arguments: list[str]) -> int:
         print(__doc__, file=sys.stderr)
         return 2
     check_faults()
+    check_respelled()
     if arguments == ["--check"]:
         return 0 if all([is_written(path, text) for path, text in texts().items()]) else 1
     for path, text in texts().items():

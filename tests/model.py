@@ -350,14 +350,18 @@ Octets = Sequence[int]
 Words = Sequence[int]
 Place = int
 
-# ("element", its words, the place after it), ("refused", number, place, count), or ("end",)
-Step = Union[Tuple[str, Tuple[int, ...], Place], Tuple[str, int, Place, int], Tuple[str]]
+# ("element", its words, the place after it, whether its octets are its canonical spelling), ("refused", number, place, count), or ("end",)
+Step = Union[Tuple[str, Tuple[int, ...], Place, bool], Tuple[str, int, Place, int], Tuple[str]]
 
 END: Step = ("end",)
 
 
-def element(words: Words, after: Place) -> Step:
-    return ("element", tuple(words), after)
+def element(form: int, octets: Octets, first: Place, words: Words, after: Place) -> Step:
+    """The element with these words, which was read from the octets between the two places.
+
+    Document 02, No. 5: "Each element read must also say whether it stood in its form's canonical spelling".
+    """
+    return ("element", tuple(words), after, list(octets[first:after]) == spell_element(form, words))
 
 
 def refused_at(number: int, first: Place, deciding: Place) -> Step:
@@ -383,7 +387,7 @@ def read_follower(form: int, octets: Octets, first: Place, place: Place, mark: i
     character = pair(mark, octets[place])
     if character is None:
         return refused_at(3, first, place)
-    return element([character + plus], place + 1)
+    return element(form, octets, first, [character + plus], place + 1)
 
 
 def read_shifted(form: int, octets: Octets, first: Place) -> Step:
@@ -393,7 +397,7 @@ def read_shifted(form: int, octets: Octets, first: Place) -> Step:
         return cut_off(octets, first)
     found = sort_shifted(form, octets[place])
     if found.kind == "graphic":
-        return element([found.value], place + 1)
+        return element(form, octets, first, [found.value], place + 1)
     if found.kind == "mark":
         return read_follower(form, octets, first, place + 1, found.value)
     return refused_at(found.value, first, place)
@@ -409,7 +413,7 @@ def read_underlined(form: int, octets: Octets, first: Place) -> Step:
         return cut_off(octets, first)
     found = sort(form, octets[place])
     if found.kind == "graphic":
-        return element([found.value + UNDERLINED_WORD], place + 1)
+        return element(form, octets, first, [found.value + UNDERLINED_WORD], place + 1)
     if found.kind == "mark":
         return read_follower(form, octets, first, place + 1, found.value, UNDERLINED_WORD)
     return refused_at(3, first, place)
@@ -452,7 +456,7 @@ def sequence_words(parameters: Parameters, final: int) -> list[int]:
     return [SEQUENCE_WORD + 65536 * intermediate + 256 * final + len(values), *values]
 
 
-def read_sequence(octets: Octets, first: Place) -> Step:
+def read_sequence(form: int, octets: Octets, first: Place) -> Step:
     """What 9B at the place and the octets after it are.
 
     8: "the 40th octet of a sequence isn't its final". "at one octet 5 goes first, then 6, 7, 8".
@@ -463,7 +467,7 @@ def read_sequence(octets: Octets, first: Place) -> Step:
         if not is_allowed(so_far, octet):
             return refused_at(6, first, place)
         if octet in FINALS:
-            return element(sequence_words(so_far, octet), place + 1)
+            return element(form, octets, first, sequence_words(so_far, octet), place + 1)
         so_far = with_octet(so_far, octet)
         if passes(so_far):
             return refused_at(7, first, place)
@@ -482,9 +486,9 @@ def read_element(form: int, octets: Octets, at: Place) -> Step:
         return END
     found = sort(form, octets[at])
     if found.kind == "graphic":
-        return element([found.value], at + 1)
+        return element(form, octets, at, [found.value], at + 1)
     if found.kind == "control":
-        return element([CONTROL_WORD + octets[at]], at + 1)
+        return element(form, octets, at, [CONTROL_WORD + octets[at]], at + 1)
     if found.kind == "mark":
         return read_follower(form, octets, at, at + 1, found.value)
     if found.kind == "shift":
@@ -492,7 +496,7 @@ def read_element(form: int, octets: Octets, at: Place) -> Step:
     if found.kind == "underline":
         return read_underlined(form, octets, at)
     if found.kind == "sequence":
-        return read_sequence(octets, at)
+        return read_sequence(form, octets, at)
     return refused_at(found.value, at, at)
 
 
@@ -583,11 +587,27 @@ class Answer(NamedTuple):
     count: int = 0
 
 
+class ReadAnswer(NamedTuple):
+    """What a reading or a conversion answers: document 02, No. 5, "a fifth number: elements not canonical in the source form"."""
+
+    number: int
+    element: int = 0
+    place: int = 0
+    count: int = 0
+    respelled: int = 0
+
+
+def with_respelled(answer: Answer, respelled: int = 0) -> ReadAnswer:
+    """The answer with its fifth number, which "is 0 on a refusal"."""
+    return ReadAnswer(*answer, 0 if answer.number else respelled)
+
+
 class Piece(NamedTuple):
-    """An element of a text: its words, and the place of its first octet or word."""
+    """An element of a text: its words, the place of its first octet or word, and whether its octets are its canonical spelling."""
 
     words: tuple[int, ...]
     place: Place
+    canonical: bool = True
 
 
 def refused_before(forms: Sequence[int], entries: Sequence[int]) -> Optional[Answer]:
@@ -608,8 +628,8 @@ def read_pieces(form: int, octets: Octets) -> tuple[list[Piece], Optional[Answer
     pieces: list[Piece] = []
     at = 0
     while (step := read_element(form, octets, at))[0] == "element":
-        _, words, after = step
-        pieces.append(Piece(words, at))
+        _, words, after, canonical = step
+        pieces.append(Piece(words, at, canonical))
         at = after
     if step[0] == "refused":
         _, number, place, count = step
@@ -619,6 +639,11 @@ def read_pieces(form: int, octets: Octets) -> tuple[list[Piece], Optional[Answer
 
 def words_of(pieces: Sequence[Piece]) -> list[int]:
     return [word for piece in pieces for word in piece.words]
+
+
+def respelled_in(pieces: Sequence[Piece]) -> int:
+    """How many of the elements do not stand in their canonical spelling."""
+    return sum(not piece.canonical for piece in pieces)
 
 
 def pieces_of_words(words: Words) -> tuple[list[Piece], Optional[Answer]]:
@@ -650,15 +675,39 @@ def given(entries: list[int], elements: int, length: int, room: Optional[int]) -
     return Answer(0, elements, length, len(entries)), entries
 
 
-def read_text(form: int, octets: Octets, room: Optional[int] = None) -> tuple[Answer, list[int]]:
+def read_given(entries: list[int], pieces: Sequence[Piece], length: int, room: Optional[int]) -> tuple[ReadAnswer, list[int]]:
+    """The same of entries that were made from the elements of a text, with the fifth number."""
+    answer, put = given(entries, len(pieces), length, room)
+    return with_respelled(answer, respelled_in(pieces)), put
+
+
+def read_text(form: int, octets: Octets, room: Optional[int] = None) -> tuple[ReadAnswer, list[int]]:
     """The answer, and the text's words: 11, 12, reading, 9."""
     refusal = refused_before([form], octets)
     if refusal:
-        return refusal, []
+        return with_respelled(refusal), []
     pieces, refusal = read_pieces(form, octets)
     if refusal:
-        return refusal, []
-    return given(words_of(pieces), len(pieces), len(octets), room)
+        return with_respelled(refusal), []
+    return read_given(words_of(pieces), pieces, len(octets), room)
+
+
+def read_one(form: int, octets: Octets, at: Place, room: Optional[int] = None) -> tuple[ReadAnswer, list[int]]:
+    """What one element read into words answers, and its words: 11, 12, that none is left or its refusal, 9.
+
+    Its element is counted, its place is the one after it. "A lone read's refusal has element 0". Where none is left, all five are 0.
+    """
+    refusal = refused_before([form], octets)
+    if refusal:
+        return with_respelled(refusal), []
+    step = read_element(form, octets, at)
+    if step[0] == "element":
+        _, words, after, canonical = step
+        return read_given(list(words), [Piece(words, at, canonical)], after, room)
+    if step[0] == "refused":
+        _, number, place, count = step
+        return ReadAnswer(number, 0, place, count), []
+    return ReadAnswer(0), []
 
 
 def write_text(form: int, words: Words, room: Optional[int] = None) -> tuple[Answer, list[int]]:
@@ -677,18 +726,18 @@ def write_text(form: int, words: Words, room: Optional[int] = None) -> tuple[Ans
     return given(octets, len(pieces), len(words), room)
 
 
-def convert_text(source: int, target: int, octets: Octets, room: Optional[int] = None) -> tuple[Answer, list[int]]:
-    """The answer, and the text's canonical spelling in the target form: 11, 12, reading, 10, 9."""
+def convert_text(source: int, target: int, octets: Octets, room: Optional[int] = None) -> tuple[ReadAnswer, list[int]]:
+    """The answer, and the text's canonical spelling in the target form: 11, 12, reading, 10, 9. The fifth number is of the source form."""
     refusal = refused_before([source, target], octets)
     if refusal:
-        return refusal, []
+        return with_respelled(refusal), []
     pieces, refusal = read_pieces(source, octets)
     if refusal:
-        return refusal, []
+        return with_respelled(refusal), []
     spelling, refusal = spell_pieces(target, pieces)
     if refusal:
-        return refusal, []
-    return given(spelling, len(pieces), len(octets), room)
+        return with_respelled(refusal), []
+    return read_given(spelling, pieces, len(octets), room)
 
 
 # The TLX case.
@@ -710,12 +759,13 @@ class Case(NamedTuple):
 
 
 class CaseAnswer(NamedTuple):
-    """The four numbers, and "the page named beside the answer (0 in any other answer)"."""
+    """The five numbers, and "the page named beside the answer (0 in any other answer)"."""
 
     number: int
     element: int = 0
     place: int = 0
     count: int = 0
+    respelled: int = 0
     page: int = 0
 
 
@@ -759,23 +809,21 @@ def read_case(octets: Octets, room: Optional[int] = None) -> tuple[CaseAnswer, l
     case = case_of(octets)
     if isinstance(case, int):
         return CaseAnswer(case), []
-    elements = 0
-    words: list[int] = []
+    pieces: list[Piece] = []
     for page, text in enumerate(case.pages):
-        pieces, refusal = read_pieces(case.form, text)
+        on_page, refusal = read_pieces(case.form, text)
         if refusal:
-            return CaseAnswer(*refusal, page), []
-        elements += len(pieces)
-        words += words_of(pieces)
-    answer, put = given(words, elements, len(octets), room)
+            return CaseAnswer(*refusal, page=page), []
+        pieces += on_page
+    answer, put = read_given(words_of(pieces), pieces, len(octets), room)
     return CaseAnswer(*answer), put
 
 
-def page_elements(octets: Octets, page: int) -> Optional[Answer]:
+def page_elements(octets: Octets, page: int) -> Optional[ReadAnswer]:
     """The page's own answer, as with room enough; or the case's own refusal; or None where the case has no page of the number."""
     case = case_of(octets)
     if isinstance(case, int):
-        return Answer(case)
+        return ReadAnswer(case)
     if page >= len(case.pages):
         return None
     answer, _ = read_text(case.form, case.pages[page])
@@ -805,13 +853,13 @@ MOST_HELD = 39
 
 
 class Carry(NamedTuple):
-    """What goes from one call to the next, field by field: the last answer, then the octets of an unfinished element.
+    """What goes from one call to the next, field by field: the last answer's five numbers, then the octets of an unfinished element.
 
     `stopped` is 1 where the answer is repeated from now on. Of `held` the first `holds` entries count. FRESH is all of it at 0.
     """
 
     answer: Answer = Answer(0)
-    spare: int = 0
+    respelled: int = 0
     holds: int = 0
     form: int = 0
     stopped: int = 0
@@ -819,10 +867,10 @@ class Carry(NamedTuple):
 
 
 class Fed(NamedTuple):
-    """What a call answers: the carry that it leaves, the four numbers, and the words handed out."""
+    """What a call answers: the carry that it leaves, the five numbers, and the words handed out."""
 
     carry: Carry
-    answer: Answer
+    answer: ReadAnswer
     words: list[int]
 
 
@@ -830,30 +878,32 @@ class Page(NamedTuple):
     """A page that comes in pieces, by all its octets since fresh. Nothing is kept of what was read of them: each call reads them anew.
 
     `final` is the answer that is repeated, if there is one. `before` is for a page whose first octets are not known, as its reader goes on
-    from a carry that was given outright: the elements, octets and words that stand before `octets`. Since fresh, none do.
+    from a carry that was given outright: the elements, octets and words that stand before `octets`, and how many of these elements are not
+    canonical. Since fresh, none do.
     """
 
     form: int
     octets: bytes = b""
-    final: Optional[Answer] = None
-    before: tuple[int, int, int] = (0, 0, 0)
+    final: Optional[ReadAnswer] = None
+    before: tuple[int, int, int, int] = (0, 0, 0, 0)
 
 
-def moved_up(answer: Answer, page: Page) -> Answer:
+def moved_up(answer: Answer, page: Page) -> ReadAnswer:
     """A reading refusal of the page's octets, counted from where the page was made fresh."""
-    elements, octets, _ = page.before
-    return Answer(answer.number, elements + answer.element, octets + answer.place, octets + answer.count)
+    elements, octets, _, _ = page.before
+    return ReadAnswer(answer.number, elements + answer.element, octets + answer.place, octets + answer.count)
 
 
-def so_far(page: Page) -> tuple[Answer, bytes]:
-    """Before the end: "0 with the elements, octets taken and words since fresh"; and the octets of the element that is not finished."""
+def so_far(page: Page) -> tuple[ReadAnswer, bytes]:
+    """Before the end: "0 with the elements, octets taken and words since fresh", and how many of these elements are not canonical; and the
+    octets of the element that is not finished."""
     pieces, cut = read_pieces(page.form, page.octets)
-    elements, octets, words = page.before
+    since = (len(pieces), len(page.octets), len(words_of(pieces)), respelled_in(pieces))
     opened = page.octets[cut.place :] if cut else b""
-    return Answer(0, elements + len(pieces), octets + len(page.octets), words + len(words_of(pieces))), opened
+    return ReadAnswer(0, *(before + more for before, more in zip(page.before, since))), opened
 
 
-def fed(page: Page, piece: bytes, ended: bool, room: int) -> tuple[Page, Answer, list[int]]:
+def fed(page: Page, piece: bytes, ended: bool, room: int) -> tuple[Page, ReadAnswer, list[int]]:
     """The page after the call, its answer, and the words handed out.
 
     "Any other refusal, or the final answer, is repeated with nothing handed out until made fresh." "12 when a piece would pass the limit,
@@ -863,12 +913,12 @@ def fed(page: Page, piece: bytes, ended: bool, room: int) -> tuple[Page, Answer,
         return page, page.final, []
     grown = page._replace(octets=page.octets + piece)
     if page.before[1] + len(grown.octets) > MOST_ENTRIES:
-        return page._replace(final=Answer(12)), Answer(12), []
+        return page._replace(final=ReadAnswer(12)), ReadAnswer(12), []
     # All words of the octets since fresh, less those that were handed out before.
     pieces, refusal = read_pieces(page.form, grown.octets)
     handed = words_of(pieces)[len(words_of(read_pieces(page.form, page.octets)[0])) :]
     if len(handed) > room:
-        return page, Answer(9, 0, 0, len(handed)), []
+        return page, ReadAnswer(9, 0, 0, len(handed)), []
     if refusal and (refusal.number != 4 or ended):
         answer = moved_up(refusal, grown)
         return grown._replace(final=answer), answer, handed
@@ -876,56 +926,63 @@ def fed(page: Page, piece: bytes, ended: bool, room: int) -> tuple[Page, Answer,
     return grown._replace(final=answer if ended else None), answer, handed
 
 
+def left_by(form: int, answer: ReadAnswer, stopped: bool, opened: bytes = b"") -> Carry:
+    """The carry that a call leaves which answers so, with the octets of an open element."""
+    assert len(opened) <= MOST_HELD
+    held = (*opened, *[0] * (MOST_HELD - len(opened)))
+    return Carry(Answer(*answer[:4]), answer.respelled, len(opened), form, int(stopped), held)
+
+
 def carry_of(page: Page) -> Carry:
     """The carry of the page: its last answer, and the open element's octets, then zeros; once it has stopped, none."""
     if page.final:
-        return Carry(page.final, form=page.form, stopped=1)
+        return left_by(page.form, page.final, True)
     answer, opened = so_far(page)
-    assert len(opened) <= MOST_HELD
-    return Carry(answer, holds=len(opened), form=page.form, held=(*opened, *[0] * (MOST_HELD - len(opened))))
+    return left_by(page.form, answer, False, opened)
 
 
-def could_be_final(answer: Answer) -> bool:
-    """Whether a page can end in the answer, by its sums alone: within the limit, and no more elements or words than octets."""
-    number, elements, place, count = answer
+def could_be_final(answer: ReadAnswer) -> bool:
+    """Whether a page can end in the answer, by its sums alone: within the limit, no more elements or words than octets, and no more
+    respelled elements than elements, on a refusal none."""
+    number, elements, place, count, respelled = answer
     if number == 0:
-        return elements <= place <= MOST_ENTRIES and count <= place
+        return respelled <= elements <= place <= MOST_ENTRIES and count <= place
     if 1 <= number <= 8:
-        return elements <= place <= count <= MOST_ENTRIES
-    return answer == Answer(12)
+        return elements <= place <= count <= MOST_ENTRIES and respelled == 0
+    return answer == ReadAnswer(12)
 
 
 def page_of(carry: Carry) -> Optional[Page]:
     """The page that the carry goes on with, or None where the form is none, or where the carry's fields contradict each other.
 
     No feeding leaves "more than 39 octets held, octets taken over the limit, elements or words over octets taken, held octets that are no
-    open element"; the open element's octets are no part of what was read.
+    open element", or more elements that are not canonical than elements; the open element's octets are no part of what was read.
     """
-    answer, holds = carry.answer, carry.holds
-    if carry.form not in FORMS or carry.spare != 0:
+    answer, holds = ReadAnswer(*carry.answer, carry.respelled), carry.holds
+    if carry.form not in FORMS:
         return None
     if carry.stopped == 1:
         return Page(carry.form, final=answer) if holds == 0 and could_be_final(answer) else None
     read = answer.place - holds
-    sums = answer.place <= MOST_ENTRIES and 0 <= read and answer.element <= read and answer.count <= read
+    sums = answer.place <= MOST_ENTRIES and 0 <= read and answer.respelled <= answer.element <= read and answer.count <= read
     if carry.stopped != 0 or answer.number != 0 or holds > MOST_HELD or not sums:
         return None
     opened = bytes(carry.held[:holds])
     if opened and read_element(carry.form, opened, 0)[:3] != ("refused", 4, 0):
         return None
-    return Page(carry.form, opened, before=(answer.element, read, answer.count))
+    return Page(carry.form, opened, before=(answer.element, read, answer.count, answer.respelled))
 
 
 def fresh(form: int) -> Fed:
     """ "A fresh carry holds no octets and has read no elements." "11 when made fresh". """
-    return Fed(carry_of(Page(form)), Answer(0), []) if form in FORMS else Fed(Carry(), Answer(11), [])
+    return Fed(carry_of(Page(form)), ReadAnswer(0), []) if form in FORMS else Fed(Carry(), ReadAnswer(11), [])
 
 
 def feed(carry: Carry, piece: bytes, ended: bool, room: int) -> Fed:
     """What any carry answers, made by a call or not. 11, 9 and an answer that is repeated leave it as it was."""
     page = page_of(carry)
     if page is None:
-        return Fed(carry, Answer(11), [])
+        return Fed(carry, ReadAnswer(11), [])
     after, answer, words = fed(page, piece, ended, room)
     as_it_was = page.final or answer.number == 9
     return Fed(carry if as_it_was else carry_of(after), answer, words)
@@ -940,16 +997,15 @@ def cut_page(form: int, octets: bytes, ends: Sequence[int]) -> Iterator[Fed]:
     pieces, refusal = read_pieces(form, octets)
     starts = [*(piece.place for piece in pieces), refusal.place if refusal else len(octets)]
     words = [0, *itertools.accumulate(len(piece.words) for piece in pieces)]
+    respelled = [0, *itertools.accumulate(not piece.canonical for piece in pieces)]
     before = 0
     for call, end in enumerate(ends, 1):
         ended = call == len(ends)
         whole = bisect.bisect_right(starts, end) - 1
         met = refusal if refusal and (ended or refusal.number != 4 and refusal.count < end) else None
-        answer = met or Answer(0, whole, end, words[whole])
+        answer = with_respelled(met or Answer(0, whole, end, words[whole]), respelled[whole])
         opened = b"" if met else octets[starts[whole] : end]
-        held = (*opened, *[0] * (MOST_HELD - len(opened)))
-        carry = Carry(answer, holds=len(opened), form=form, stopped=int(ended or met is not None), held=held)
-        yield Fed(carry, answer, words_of(pieces[before:whole]))
+        yield Fed(left_by(form, answer, ended or met is not None, opened), answer, words_of(pieces[before:whole]))
         before = whole
 
 
@@ -1047,7 +1103,8 @@ READINGS: list[tuple[int, str, Union[list[int], Answer]]] = [
     (3, "1B", Answer(2, 0, 0, 0)),
 ]
 
-# What the table's third column says besides: source, target, octets, and the octets or the refusal that the conversion gives.
+# What the table's third column says besides: source, target, octets, and the octets or the refusal that the conversion gives. Those within
+# one form are the ones that say "canonical": the other readings' octets are canonical themselves.
 CONVERSIONS: list[tuple[int, int, str, Union[str, Answer]]] = [
     (1, 2, "C2 65", "19 42 65"),
     (1, 1, "C1 20", "60"),
@@ -1060,17 +1117,23 @@ CONVERSIONS: list[tuple[int, int, str, Union[str, Answer]]] = [
 def check_readings() -> None:
     """Document 01's sixteen readings, held against the functions above."""
     assert len(READINGS) == 16
+    respelt = [(source, text) for source, target, text, _ in CONVERSIONS if source == target]
     for form, text, expected in READINGS:
         answer, words = read_text(form, bytes.fromhex(text))
-        assert (answer if answer.number else words) == expected, (form, text, answer, words)
+        assert (Answer(*answer[:4]) if answer.number else words) == expected, (form, text, answer, words)
+        assert answer.respelled == ((form, text) in respelt), (form, text, answer)
     for source, target, text, converted in CONVERSIONS:
         answer, octets = convert_text(source, target, bytes.fromhex(text))
-        assert (answer if answer.number else bytes(octets).hex(" ").upper()) == converted, (source, target, text, answer, octets)
+        told = Answer(*answer[:4]) if answer.number else bytes(octets).hex(" ").upper()
+        assert told == converted, (source, target, text, answer, octets)
+        assert answer.respelled == (source == target), (source, target, text, answer)
 
 
 def check_serial() -> None:
     """A page cut at each octet, and octet by octet: its words and its final answer are the whole page's, by the page and by its carry."""
-    for form, text, _ in [*READINGS, (3, "41 CC C2 65 9B 30 3B 6D 42", None), (2, "41 19 42 65 19 24 42", None)]:
+    more = [(3, "41 CC C2 65 9B 30 3B 6D 42", None), (2, "41 19 42 65 19 24 42", None)]
+    more += [(form, text, None) for form, text, _ in RESPELLED]
+    for form, text, _ in [*READINGS, *more]:
         octets = bytes.fromhex(text)
         whole = read_text(form, octets)[0]
         words = words_of(read_pieces(form, octets)[0])
@@ -1087,11 +1150,22 @@ def check_serial() -> None:
             assert (answer, handed) == (whole, words), (form, text, pieces, answer, handed)
     # 12 goes before 9 and before the fault, 9 before the fault; FRESH has no form yet.
     near = Carry(Answer(0, 0, MOST_ENTRIES - 1, 0), form=1)
-    assert feed(near, b"A\x1B", True, 0)[1:] == (Answer(12), [])
-    assert feed(near, b"A", True, 0) == Fed(near, Answer(9, 0, 0, 1), [])
-    assert feed(near._replace(answer=Answer(0, 7, 7, 7)), b"A\x1B", False, 0).answer == Answer(9, 0, 0, 1)
-    assert feed(near._replace(answer=Answer(0, 7, 7, 7)), b"A\x1B", False, 1)[1:] == (Answer(2, 8, 8, 8), [0x41])
-    assert feed(Carry(), b"", False, 0) == fresh(0) == fresh(4) == Fed(Carry(), Answer(11), [])
+    assert feed(near, b"A\x1B", True, 0)[1:] == (ReadAnswer(12), [])
+    assert feed(near, b"A", True, 0) == Fed(near, ReadAnswer(9, 0, 0, 1), [])
+    seven = Carry(Answer(0, 7, 7, 7), respelled=2, form=1)
+    assert feed(seven, b"A\x1B", False, 0) == Fed(seven, ReadAnswer(9, 0, 0, 1), [])
+    assert feed(seven, b"A\x1B", False, 1)[1:] == (ReadAnswer(2, 8, 8, 8), [0x41])
+    # Before the end it is the number so far, and the end's is repeated.
+    assert feed(seven, b"A\xC1 \xC3", False, 2)[1:] == (ReadAnswer(0, 9, 11, 9, 3), [0x41, 0x60])
+    ended = feed(seven, b"\xC1 ", True, 1)
+    assert ended.answer == feed(ended.carry, b"\xC1 ", False, 9).answer == ReadAnswer(0, 8, 9, 8, 3)
+    # More of them than elements, or any beside a refusal, no call leaves.
+    assert feed(seven._replace(respelled=7), b"", False, 0).answer == ReadAnswer(0, 7, 7, 7, 7)
+    stopped = seven._replace(answer=Answer(2, 1, 2, 2), stopped=1)
+    for wrong in (seven._replace(respelled=8), seven._replace(respelled=8, stopped=1), stopped):
+        assert feed(wrong, b"", False, 0) == Fed(wrong, ReadAnswer(11), [])
+    assert feed(stopped._replace(respelled=0), b"", False, 0).answer == ReadAnswer(2, 1, 2, 2)
+    assert feed(Carry(), b"", False, 0) == fresh(0) == fresh(4) == Fed(Carry(), ReadAnswer(11), [])
 
 
 def check_texts() -> None:
@@ -1103,16 +1177,88 @@ def check_texts() -> None:
             words += [*sequence_words(Parameters((0, 7, 999, 0), 0x2F), 0x7E), *sequence_words(Parameters((0,)), 0x40)]
         written, octets = write_text(form, words)
         assert written.number == 0 and written.place == len(words)
-        assert read_text(form, octets) == (Answer(0, written.element, len(octets), len(words)), words)
-        assert convert_text(form, form, octets) == (Answer(0, written.element, len(octets), len(octets)), octets)
+        assert read_text(form, octets) == (ReadAnswer(0, written.element, len(octets), len(words)), words)
+        assert convert_text(form, form, octets) == (ReadAnswer(0, written.element, len(octets), len(octets)), octets)
         assert write_text(form, words, len(octets) - 1) == (Answer(9, 0, 0, len(octets)), [])
         assert write_text(form, [*words, SEQUENCE_WORD], 0) == (Answer(10, written.element, len(words), 0), [])
     too_many = [0] * (MOST_ENTRIES + 1)
-    assert read_text(4, too_many) == convert_text(1, 0, too_many) == (Answer(11), [])
-    assert read_text(1, too_many) == write_text(2, too_many) == convert_text(3, 3, too_many) == (Answer(12), [])
+    assert read_text(4, too_many) == convert_text(1, 0, too_many) == (ReadAnswer(11), [])
+    assert read_text(1, too_many) == convert_text(3, 3, too_many) == (ReadAnswer(12), [])
+    assert write_text(2, too_many) == (Answer(12), [])
     # Reading goes before 10, and 10 before 9.
-    assert convert_text(3, 1, [0xCC, 0x41, 0x60], 0) == (Answer(1, 1, 2, 2), [])
-    assert convert_text(3, 1, [0x41, 0xCC, 0x41], 0) == (Answer(10, 1, 1, 0), [])
+    assert convert_text(3, 1, [0xCC, 0x41, 0x60], 0) == (ReadAnswer(1, 1, 2, 2), [])
+    assert convert_text(3, 1, [0x41, 0xCC, 0x41], 0) == (ReadAnswer(10, 1, 1, 0), [])
+    # One element: 11, 12, that none is left, its refusal, 9; and none that is refused before its place.
+    assert read_one(0, too_many, 0, 0) == (ReadAnswer(11), []) and read_one(1, too_many, 2**64, 0) == (ReadAnswer(12), [])
+    text = bytes.fromhex("1B 9B 30 3B 6D C1 62")
+    assert read_one(3, text, 1, 3) == (ReadAnswer(0, 1, 5, 3, 1), [67136770, 0, 0])
+    assert read_one(3, text, 1, 2) == (ReadAnswer(9, 0, 0, 3), [])
+    assert read_one(3, text, 5, 0) == (ReadAnswer(3, 0, 5, 6), []) and read_one(3, text, 0, 0) == (ReadAnswer(2), [])
+    assert read_one(3, text, 6, 1) == (ReadAnswer(0, 1, 7, 1), [0x62])
+    assert read_one(3, text, 7, 0) == read_one(3, text, 2**64 - 1, 9) == (ReadAnswer(0), [])
+
+
+# What request No. 5 says, by hand: form, text, and how many of its elements are not canonical.
+RESPELLED: list[tuple[int, str, int]] = [
+    (1, "", 0),
+    # "U+0060, 005E and 007E are single octets in forms 1 and 2 and pairs in form 3."
+    (1, "60 5E 7E", 0),
+    (1, "C1 20 C3 20 C4 20", 3),
+    (1, "60 C1 20 C2 20 C2 65 C3 20 5E 0A", 2),
+    (2, "60 5E 7E 19 42 20", 0),
+    (2, "19 41 20 19 43 20 19 44 20", 3),
+    (2, "41 19 41 20 19 42 65 19 21 19 44 20 0D", 2),
+    (3, "C1 20 C3 20 C4 20 CC C1 20", 0),
+    # "Form 3 writes the number sign A6 and the currency sign A8."; "after CC if underlined"
+    (3, "A6 A8 CC A6 CC A8 A4", 0),
+    (3, "23 24", 2),
+    (3, "CC 23 CC 24 CC A6 CC 41 CC C2 65", 2),
+    # "Values have no leading zeros, 0 is the empty sub-string, and the number of values is kept."
+    (3, "9B 6D 9B 3B 6D 9B 34 6D 9B 31 30 3B 3B 31 30 30 20 4C", 0),
+    (3, "9B 30 6D 9B 30 3B 6D 9B 3B 30 6D 9B 30 34 6D 9B 34 3B 30 30 35 2F 7E", 5),
+    (3, "9B 30 30 30 3B 30 30 31 3B 30 6D 41 24 A6 CC 23 8B 9B 30 6D", 4),
+]
+
+
+def every_spelling(form: int) -> list[bytes]:
+    """Every spelling of every character, one octet or a mark and its follower; then of every underlined one."""
+    supplementary = [(octet,) for octet in SPACING[form]] + list(SQUARES)
+    shifted = [(SS2, first - TOP_BIT, *rest) if form == 2 else (first, *rest) for first, *rest in supplementary]
+    characters = [*((octet,) for octet in PRIMARY[form]), *shifted]
+    underlined = [(UNDERLINE, *character) for character in characters] if form == 3 else []
+    return list(map(bytes, [*characters, *underlined]))
+
+
+def check_respelled() -> None:
+    """The numbers above, and what holds of every number: it counts the elements whose octets converting within the form alters, it is what
+    comparing with that finds, it adds up over joined texts and over pages, and there is none after it."""
+    for form, text, respelled in RESPELLED:
+        octets = bytes.fromhex(text)
+        answer, _ = read_text(form, octets)
+        pieces, _ = read_pieces(form, octets)
+        converted, canonical = convert_text(form, form, octets)
+        spellings = zip(pieces_octets(pieces, octets), pieces_octets(read_pieces(form, canonical)[0], canonical))
+        assert answer.respelled == converted.respelled == respelled == sum(one != other for one, other in spellings), (form, text)
+        assert compared(form, octets, bytes(canonical)).otherwise == respelled, (form, text)
+        assert convert_text(form, form, canonical)[0].respelled == 0, (form, text)
+        # On a refusal it is 0, whatever stood before it.
+        for refused, _ in (read_text(form, [*octets, 0x1B]), read_text(form, [*octets, 0x41], answer.count), read_text(0, octets)):
+            assert refused.number in (2, 9, 11) and refused.respelled == 0, (form, text)
+    for form in FORMS:
+        some = [(bytes.fromhex(text), respelled) for each, text, respelled in RESPELLED if each == form]
+        for (first, one), (second, other) in itertools.product(some, repeat=2):
+            assert read_text(form, first + second)[0].respelled == one + other, (form, first, second)
+        case = write_case(form, [len(page) for page, _ in some], b"".join(page for page, _ in some))[1]
+        assert read_case(case)[0].respelled == sum(respelled for _, respelled in some), form
+        assert [page_elements(case, page).respelled for page in range(len(some))] == [respelled for _, respelled in some], form
+    # All characters that are not canonical in some spelling of one octet, or of a mark and its follower.
+    not_canonical = {1: "C120 C320 C420", 2: "194120 194320 194420", 3: "23 24 CC23 CC24"}
+    for form in FORMS:
+        found = [spelling for spelling in every_spelling(form) if read_text(form, spelling)[0].respelled]
+        assert found == [bytes.fromhex(text) for text in not_canonical[form].split()], (form, found)
+    # Counted in the source's form: "elements not canonical in the source form".
+    assert convert_text(1, 3, bytes.fromhex("60 C1 20 23"))[0] == ReadAnswer(0, 3, 4, 5, 1)
+    assert convert_text(3, 1, bytes.fromhex("C1 20 23"))[0] == ReadAnswer(0, 2, 3, 2, 1)
 
 
 # What the request says, by hand: form, both texts, the eleven numbers, and the part.
@@ -1157,17 +1303,17 @@ def check_cases() -> None:
     """The document's whole example, and the order of refusals of a case."""
     example = bytes.fromhex(EXAMPLE)
     assert read_case(example) == (CaseAnswer(0, 2, 15, 2), [0x41, 0xE9])
-    assert [page_elements(example, page) for page in range(3)] == [Answer(0, 1, 1, 1), Answer(0, 1, 2, 1), None]
+    assert [page_elements(example, page) for page in range(3)] == [ReadAnswer(0, 1, 1, 1), ReadAnswer(0, 1, 2, 1), None]
     assert write_case(1, [1, 2], example[12:]) == (Answer(0, 0, 3, 15), list(example))
     assert read_case(example, 1) == (CaseAnswer(9, 0, 0, 2), [])
     assert write_case(1, [1, 2], example[12:], 14) == (Answer(9, 0, 0, 15), [])
     # "an element can't run over into the next page"
     cut = bytes(write_case(1, [2, 1], [0x41, 0xC2, 0x65])[1])
-    assert read_case(cut, 0) == (CaseAnswer(4, 1, 1, 2, 0), [])
+    assert read_case(cut, 0) == (CaseAnswer(4, 1, 1, 2), [])
     # Each header is wrong in all that the ones after it are wrong in.
     for number, header in [(13, "54 4C 59 00 02 04 FF FF"), (14, "54 4C 58 00 02 04 FF FF"), (11, "54 4C 58 00 01 04 FF FF")]:
         assert read_case(bytes.fromhex(header)) == (CaseAnswer(number), [])
-        assert page_elements(bytes.fromhex(header), 0) == Answer(number)
+        assert page_elements(bytes.fromhex(header), 0) == ReadAnswer(number)
     assert read_case(bytes.fromhex("54 4C 58 00 01 01 FF FF")) == (CaseAnswer(15), [])
     assert read_case(CASE_MARK) == (CaseAnswer(13), [])
     assert write_case(0, [2**16], [], 0) == (Answer(11), [])
@@ -1182,4 +1328,5 @@ if __name__ == "__main__":
     check_texts()
     check_serial()
     check_compared()
-    print("the sixteen readings hold, and so do the texts, the whole example of a case, pages in pieces and two texts compared")
+    check_respelled()
+    print("the sixteen readings hold, and so do texts, the whole example of a case, pages in pieces, texts compared and what was respelled")

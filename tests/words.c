@@ -26,11 +26,13 @@ static_assert(OAK_INTERMEDIATE(67136769) == 0 && OAK_INTERMEDIATE(69225473) == 0
 static_assert(OAK_FINAL(67136769) == 0x6D && OAK_FINAL(69225473) == 0x4C && OAK_VALUES(69225473) == 1, "finals");
 
 /* The answers and comparisons are as the library lays them out, and so is a carry, up to its last octet. */
-static_assert(sizeof(struct oak_answer) == 32 && sizeof(struct oak_case_answer) == 40, "answers");
-static_assert(offsetof(struct oak_carry, spare) == 32 && offsetof(struct oak_carry, holds) == 40, "a carry's counts");
+static_assert(sizeof(struct oak_answer) == 32 && sizeof(struct oak_reading) == 40, "answers");
+static_assert(offsetof(struct oak_reading, respelled) == 32 && offsetof(struct oak_case_answer, respelled) == 32, "the fifth number");
+static_assert(offsetof(struct oak_case_answer, page) == 40 && sizeof(struct oak_case_answer) == 48, "a case's answer");
+static_assert(offsetof(struct oak_carry, respelled) == 32 && offsetof(struct oak_carry, holds) == 40, "a carry's counts");
 static_assert(offsetof(struct oak_carry, form) == 48 && offsetof(struct oak_carry, stopped) == 52, "a carry's form");
 static_assert(offsetof(struct oak_carry, held) == 56 && sizeof(struct oak_carry) == 96, "a carry's octets");
-static_assert(offsetof(struct oak_fed, answer) == 96 && offsetof(struct oak_fed, handed) == 128 && sizeof(struct oak_fed) == 136, "fed");
+static_assert(offsetof(struct oak_fed, answer) == 96 && offsetof(struct oak_fed, handed) == 136 && sizeof(struct oak_fed) == 144, "fed");
 static_assert(offsetof(struct oak_comparison, text) == 32 && offsetof(struct oak_comparison, same) == 40, "a comparison's verdict");
 static_assert(offsetof(struct oak_comparison, first_place) == 48 && offsetof(struct oak_comparison, second_place) == 56, "its places");
 static_assert(offsetof(struct oak_comparison, otherwise) == 64 && offsetof(struct oak_comparison, tail_text) == 72, "its counts");

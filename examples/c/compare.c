@@ -54,16 +54,6 @@ static int refused(struct oak_comparison c, struct text text)
     return 2;
 }
 
-/* How many octets the element at the start has. The library reads whole texts, so it is asked for the shortest beginning that is one: each
-   shorter one, of an octet at least, is cut short. No element has over 40 octets. */
-static size_t element_size(uint32_t form, const uint8_t *start, size_t length)
-{
-    size_t size = 1;
-    while (size < length && oak_read(form, start, size, NULL, 0).number == OAK_CUT_SHORT)
-        size++;
-    return size;
-}
-
 static void say_octets(const uint8_t *start, size_t count)
 {
     for (size_t i = 0; i < count; i++)
@@ -73,7 +63,9 @@ static void say_octets(const uint8_t *start, size_t count)
 /* The element at a place, and where that is. */
 static void say_element(uint32_t form, struct text text, size_t place)
 {
-    say_octets(text.start + place, element_size(form, text.start + place, text.length - place));
+    uint32_t words[OAK_MOST_WORDS];
+    struct oak_reading e = oak_element(form, text.start, text.length, place, words, OAK_MOST_WORDS);
+    say_octets(text.start + place, e.place - place);
     printf(" at place %zu of %s", place, text.name);
 }
 

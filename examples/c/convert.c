@@ -3,9 +3,9 @@
  *
  *     convert SOURCE TARGET FILE OUTPUT
  *
- * SOURCE and TARGET are 1 (T51String in eight bits), 2 (in seven bits) or 3 (basic T.61). Exit status: 0, converted; 1, the text is
- * refused, and the message names the octet and its place, except for 11 and 12, which are about none; 2, anything else. OUTPUT is written
- * only where the text is converted.
+ * SOURCE and TARGET are 1 (T51String in eight bits), 2 (in seven bits) or 3 (basic T.61). One line says how many elements were respelled:
+ * those that did not stand in SOURCE's canonical spelling. Exit status: 0, converted; 1, the text is refused, and the message names the
+ * octet and its place, except for 11 and 12, which are about none; 2, anything else. OUTPUT is written only where the text is converted.
  */
 #include <stdint.h>
 #include <stdio.h>
@@ -38,7 +38,7 @@ static int fail(const char *what, const char *why)
 }
 
 /* Names a refusal in words, with its octet in hex and the octet's place. */
-static int refused(struct oak_answer a, struct octets text)
+static int refused(struct oak_reading a, struct octets text)
 {
     if (a.number == OAK_NO_FORM || a.number == OAK_TOO_LONG) {
         fprintf(stderr, "convert: refused with %zu: %s\n", a.number,
@@ -88,7 +88,7 @@ static int store(const char *name, struct octets text)
 static int convert(uint32_t source, uint32_t target, struct octets text, const char *output)
 {
     /* With no room at all, the answer says how much is needed. */
-    struct oak_answer a = oak_convert(source, target, text.start, text.length, NULL, 0);
+    struct oak_reading a = oak_convert(source, target, text.start, text.length, NULL, 0);
     struct octets out = {NULL, 0};
     if (a.number == OAK_SHORT_ROOM) {
         out.length = a.count;
@@ -102,6 +102,8 @@ static int convert(uint32_t source, uint32_t target, struct octets text, const c
         status = refused(a, text);
     else if (!store(output, out))
         status = fail(output, "cannot be written");
+    else if (printf("%zu elements respelled\n", a.respelled) < 0 || fflush(stdout) != 0)
+        status = fail("the number", "cannot be written");
     free(out.start);
     return status;
 }

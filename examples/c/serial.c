@@ -40,7 +40,7 @@ static int fail(const char *what, const char *why)
 }
 
 /* Names a refusal in words, with its octet in hex and the octet's place. */
-static int refused(struct oak_answer a, const uint8_t *kept)
+static int refused(struct oak_reading a, const uint8_t *kept)
 {
     if (a.number == OAK_NO_FORM || a.number == OAK_TOO_LONG) {
         fprintf(stderr, "serial: refused with %zu: %s\n", a.number,

@@ -1,4 +1,4 @@
--- A test that two lists of octets, or two elements, are the same says so, and holds of each with itself.
+-- A test that two elements are the same says so, and holds of each with itself; two lists of octets that differ fail theirs.
 -- Assumes nothing.
 use Prim.Native.Nat.{ℕ, suc, _+_, _-_, _≤_, _<_}
 use mathlib.Core.Path.{_≡_, refl, sym, ap, ap₂, _∙_}
@@ -9,31 +9,14 @@ use lib.Dec.{eqb}
 use lib.ListN.{length, take, drop, getD}
 use lib.Seq.{drop-cons}
 use borrow.Author.Tests.{eqb-true, eq-eqb, ne-eqb}
-use Rattle.run.specs.Choice.{pick}
-use Rattle.run.proofs.Choices.{both-true, true-both, is-false}
+use Rattle.run.specs.Choice.{pick, sameOctets}
+use Rattle.run.proofs.Choices.{both-true, true-both, is-false, alike-tests, same-octets-are, are-same-octets}
 use Rattle.sequence_reading.specs.declared.Values.{Values}
 use Rattle.element_words.specs.declared.Element.{Element}
 use Rattle.element_words.specs.declared.Element.the-variants.{One, Sequence as SequenceOf}
-use Rattle.compare.specs.Comparing.{sameOctets, sameValues, sameElement}
-
--- two tests that hold of the same are the same
-pub alike-tests : (a b : Bool) → (a ≡ true → b ≡ true) → (b ≡ true → a ≡ true) → a ≡ b
-alike-tests true b h k = sym (h refl)
-alike-tests false true h k = k refl
-alike-tests false false h k = refl
+use Rattle.compare.specs.Comparing.{sameValues, sameElement}
 
 -- ---- octets
-
-pub same-octets-are : (s t : List ℕ) → sameOctets s t ≡ true → s ≡ t
-same-octets-are [] [] e = refl
-same-octets-are [] (u ∷ t) e = let z : _≡_ {A = ℕ} 0 1 = cc in absurd (omega arith)
-same-octets-are (o ∷ s) [] e = let z : _≡_ {A = ℕ} 0 1 = cc in absurd (omega arith)
-same-octets-are (o ∷ s) (u ∷ t) e =
-    let b = both-true (eqb o u) (sameOctets s t) e in ap₂ _∷_ (eqb-true o u (b .0)) (same-octets-are s t (b .1))
-
-pub are-same-octets : (s : List ℕ) → sameOctets s s ≡ true
-are-same-octets [] = refl
-are-same-octets (o ∷ s) = true-both (eqb o o) (sameOctets s s) (eq-eqb o o refl) (are-same-octets s)
 
 pub other-octets : (s t : List ℕ) → (s ≡ t → ⊥) → sameOctets s t ≡ false
 other-octets s t h = is-false (sameOctets s t) (λ e. h (same-octets-are s t e))

@@ -12,8 +12,10 @@ use Rattle.run.specs.Tagged.{untagged}
 use Rattle.element_words.specs.declared.Element.{Element}
 use Rattle.compare.specs.declared.Shared.{Shared}
 use Rattle.compare.specs.WhatChanged.{Otherwise, none, alike, otherwise}
-use Rattle.compare.specs.Comparing.{Segment, sameOctets, sameElement, sharedOf, nothingShared, andThen, oneShared, shared}
-use Rattle.compare.proofs.SameTests.{same-octets-are, are-same-octets, octets-exchanged}
+use Rattle.compare.specs.Comparing.{Segment, sameElement, sharedOf, nothingShared, andThen, oneShared, shared}
+use Rattle.run.specs.Choice.{sameOctets}
+use Rattle.run.proofs.Choices.{same-octets-are, are-same-octets}
+use Rattle.compare.proofs.SameTests.{octets-exchanged}
 use Rattle.compare.proofs.SameTests.{same-element-is, is-same-element, other-element, element-exchanged}
 
 -- ---- sums

@@ -2,7 +2,7 @@
 -- Assumes nothing.
 use Prim.Native.Nat.{ℕ, _+_, _-_, _≤_, _<_}
 use mathlib.Core.Path.{_≡_, sym, ap, _∙_}
-use mathlib.Core.Bool.{false}
+use mathlib.Core.Bool.{Bool, false}
 use mathlib.Core.List.{List, [], _∷_}
 use native.Mathlib.Omega.{arith}
 use lib.ListN.{length, drop, getD, length-append, length-drop, drop-of-length-le}
@@ -42,7 +42,7 @@ module _ (f : Form) (text : List ℕ) (at : ℕ) where
     pub one-octet : (c : ℕ) → c ≡ codeIn (codeTable f) (getD text at 0) → c < noCharacter → SizeOf f (drop at text) 1
     one-octet c e h =
         let g = graphic-code f (getD text at 0) (omega arith) in
-        let x = graphic-here f text at (codeIn (codeTable f) (getD text at 0)) within (sym g) in
+        let x = graphic-here f text at (codeIn (codeTable f) (getD text at 0)) within (sym (g .sorts)) in
         let n : x .size ≡ 1 = omega (arith, x .onward) in
         record {
           what = One (codeIn (codeTable f) (getD text at 0));
@@ -82,8 +82,9 @@ module _ (f : Form) (text : List ℕ) (at : ℕ) where
       let b = reads f .found (drop at text) (size .what) k (size .here) in
       omega (arith, b .size, ap length (b .whole), length-append (b .front) (b .rest), length-drop at text)
 
-  pub by-step : (e : Element) (next : ℕ) → stepAt f text at ≡ Read e next → (at ≤ next) × SizeOf f (drop at text) (next - at)
-  by-step e next q =
-      let x = here f text at e next q in
+  pub by-step : (e : Element) (next : ℕ) (b : Bool) → stepAt f text at ≡ Read e next b
+      → (at ≤ next) × SizeOf f (drop at text) (next - at)
+  by-step e next b q =
+      let x = here f text at e next b q in
       let n : x .size ≡ next - at = omega (arith, x .onward) in
       (omega (arith, x .onward), record { what = e; here = x .here ∙ ap (element e) n })

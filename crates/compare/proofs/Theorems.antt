@@ -14,6 +14,7 @@ use lib.Seq.{take-append-seam, drop-append-seam, drop-length}
 use Rattle.run.specs.Choice.{pick}
 use Rattle.run.specs.Tagged.{untagged}
 use Rattle.run.specs.Grammar.{Run, done, more, RunOf}
+use Rattle.run.specs.Tally.{Apart}
 use Rattle.run.specs.Answers.{answer, given}
 use Rattle.run.proofs.Outcomes as outcomes
 use Rattle.run.proofs.Outcomes.{run-by}
@@ -24,7 +25,10 @@ use Rattle.element_words.proofs.Words.{words-read}
 use Rattle.element_reading.specs.Grammar.{Spells}
 use Rattle.element_reading.proofs.Reader.{reads}
 use Rattle.element_spelling.specs.ElementOctets.{CanonicalElement, Held}
-use Rattle.element_spelling.proofs.Writer.{canonical-spells, canonical-proper, read-held}
+use Rattle.element_spelling.proofs.Writer.{canonical-proper, one-spelling}
+use Rattle.text_loops.specs.Fronts.{respelledBefore}
+use Rattle.text_reading.proofs.Respelled.{respelled-exactly}
+use Rattle.element_reading.proofs.ReadBack.{canonical-spells, read-held}
 use Rattle.element_reading.proofs.Places.{reading-number}
 use Rattle.compare.specs.declared.Comparison.{Comparison}
 use Rattle.compare.specs.WhatChanged.{Otherwise, GoesOn, Differ, FirstDiffer, BothRun, FormAndLimit, CompareRow}
@@ -240,6 +244,22 @@ module _ (form : ℕ) (first second : List ℕ) {f : Form} (readable : FormAndLi
   -- A text and its canonical spelling mean the same.
   pub canonical-same : {es : List Element} → RunOf (Spells f) first es → RunOf (CanonicalElement f) second es → C .same ≡ 1
   canonical-same r c = said-same (r .1) (run-by (λ p e k. canonical-spells f k) (c .1))
+
+  -- the pieces that are not canonical are those that differ from the canonical ones
+  apart-otherwise : {s : List ℕ} {ps qs : List (List ℕ)} {es : List Element} {k : ℕ} → Apart (CanonicalElement f) ps es k
+      → Run (CanonicalElement f) s qs es → Otherwise ps qs k
+  apart-otherwise Apart.none done = Otherwise.none
+  apart-otherwise (Apart.spelt {p} {ps = ps} {k = k} c h) (more {ps = qs} d r) =
+      subst (λ (q : List ℕ). Otherwise (p ∷ ps) (q ∷ qs) k) (one-spelling f c d) (Otherwise.alike (apart-otherwise h r))
+  apart-otherwise (Apart.apart {e = e} n h) (more d r) =
+      Otherwise.otherwise (λ q. n (subst (λ (p : List ℕ). CanonicalElement f p e) (sym q) d)) (apart-otherwise h r)
+
+  -- Beside the canonical spelling of a text's elements, the number spelled otherwise is No. 5's of the text.
+  pub canonical-otherwise : {es : List Element} → RunOf (Spells f) first es → RunOf (CanonicalElement f) second es
+      → C .otherwise ≡ respelledBefore f first
+  canonical-otherwise r c =
+      otherwise-exactly (r .1) (run-by (λ p e k. canonical-spells f k) (c .1)) (respelledBefore f first) .1
+      (apart-otherwise (respelled-exactly f (r .1) (respelledBefore f first) .0 refl) (c .1))
 
 -- ======== "on a refusal, it is the first's empty end", and so it is where both mean the same
 

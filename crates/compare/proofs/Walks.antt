@@ -17,9 +17,11 @@ use Rattle.element_reading.specs.ElementHead.{headIn, stepAt}
 use Rattle.element_reading.proofs.Reader.{reads}
 use Rattle.text_loops.proofs.Steps.{here}
 use Rattle.compare.specs.declared.Shared.{Shared}
-use Rattle.compare.specs.Comparing.{Segment, segmentsIn, sameOctets, sameElement, sharedOf, nothingShared, andThen, oneShared, shared}
+use Rattle.compare.specs.Comparing.{Segment, segmentsIn, sameElement, sharedOf, nothingShared, andThen, oneShared, shared}
 use Rattle.compare.specs.Walking.{Stands, SizeOf, ReadThrough, sharedHeads, sharedHere, sharedBy, sharedIn}
-use Rattle.compare.proofs.SameTests.{same-octets-are, are-same-octets, other-octets, is-same-element}
+use Rattle.run.specs.Choice.{sameOctets}
+use Rattle.run.proofs.Choices.{same-octets-are, are-same-octets}
+use Rattle.compare.proofs.SameTests.{other-octets, is-same-element}
 use Rattle.compare.proofs.Sharing.{then-nothing, nothing-then, then-assoc}
 use Rattle.compare.proofs.Segments.{First, first, at-end}
 
@@ -85,16 +87,16 @@ module _ (f : Form) (s t : List ℕ) (i j : ℕ) where
     octets-at q e = same-here f (drop i s) (drop j t) is (same-octets-are _ _ (sym q ∙ e))
 
     -- other ones: by the two elements that are read
-    module _ {a b : Element} {next after : ℕ} (one : stepAt f s i ≡ Read a next) (two : stepAt f t j ≡ Read b after) {r : Bool}
-        (by : r ≡ sameElement a b) where
+    module _ {a b : Element} {next after : ℕ} {u v : Bool} (one : stepAt f s i ≡ Read a next u) (two : stepAt f t j ≡ Read b after v)
+        {r : Bool} (by : r ≡ sameElement a b) where
       pub differ-at : r ≡ false → nothingShared ≡ sharedHere f (drop i s) (drop j t)
-      differ-at e = differ-here f (drop i s) (drop j t) (here f s i a next one .here) (here f t j b after two .here) (sym by ∙ e)
+      differ-at e = differ-here f (drop i s) (drop j t) (here f s i a next u one .here) (here f t j b after v two .here) (sym by ∙ e)
 
       pub otherwise-at : r ≡ true → {o : Bool} → o ≡ Same → o ≡ false
           → (i ≤ next) × (j ≤ after) × (sharedOf 1 (next - i) (after - j) 1 ≡ sharedHere f (drop i s) (drop j t))
       otherwise-at e q z =
-          let x = here f s i a next one in
-          let y = here f t j b after two in
+          let x = here f s i a next u one in
+          let y = here f t j b after v two in
           let known = sym (is .here) ∙ x .here in
           let n : size ≡ x .size = cc in
           let k : next - i ≡ x .size = omega (arith, x .onward) in

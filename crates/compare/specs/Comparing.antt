@@ -6,7 +6,7 @@ use mathlib.Core.Bool.{Bool, true, false}
 use mathlib.Core.List.{List, [], _∷_}
 use lib.Dec.{eqb, ltb}
 use lib.ListN.{length, drop}
-use Rattle.run.specs.Choice.{pick}
+use Rattle.run.specs.Choice.{pick, sameOctets}
 use Rattle.run.specs.Head.{Outcome, accepted, refusal, outcome}
 use Rattle.run.specs.Tagged.{tagged}
 use Rattle.run.specs.Answers.{answer, bare, countOf}
@@ -22,13 +22,6 @@ use Rattle.compare.specs.declared.Shared.{Shared}
 use Rattle.compare.specs.WhatChanged.{refusedBy, sameOf, differAt}
 
 -- ---- tests
-
--- the same octets
-abbrev pub sameOctets : List ℕ → List ℕ → Bool
-sameOctets [] [] = true
-sameOctets [] (o ∷ t) = false
-sameOctets (o ∷ s) [] = false
-sameOctets (o ∷ s) (u ∷ t) = let more = sameOctets s t in pick (eqb o u) more false
 
 abbrev pub sameValues : Values → Values → Bool
 sameValues a b =

@@ -11,7 +11,8 @@ ghost use lib.ListN.{length, take, drop};
 ghost use denote.Ref.{ptr};
 ghost use Rattle.lent_tables.specs.CodeTables.{codeTable};
 ghost use Rattle.compare.specs.WhatChanged.{refusedBy, differAt};
-ghost use Rattle.compare.specs.Comparing.{sameValues, sameElement, sameOctets, toldBy, comparedIn};
+ghost use Rattle.run.specs.Choice.{sameOctets};
+ghost use Rattle.compare.specs.Comparing.{sameValues, sameElement, toldBy, comparedIn};
 ghost use Rattle.compare.specs.Walking.{Stands, SizeOf, ReadThrough, sharedHere, sharedIn};
 ghost use Rattle.compare.specs.Promises.{ComparedPromise, ComparePromise};
 
@@ -146,7 +147,7 @@ fn size_at(form: Form, codes: &[u16; 256], text: &[u8], at: usize) -> usize
         return 2;
     }
     let step = element_reading::element_at(form, text, at);
-    let Step::Element(_, next) = step else {
+    let Step::Element(_, next, _) = step else {
         return 0;
     };
     next - at
@@ -187,11 +188,11 @@ fn shared_at(
         };
     }
     let step = element_reading::element_at(form, first, i);
-    let Step::Element(a, next) = step else {
+    let Step::Element(a, next, _) = step else {
         return NOTHING;
     };
     let other = element_reading::element_at(form, second, j);
-    let Step::Element(b, after) = other else {
+    let Step::Element(b, after, _) = other else {
         return NOTHING;
     };
     if !same_element(a, b) {

@@ -1,5 +1,7 @@
 pub mod Reader
+pub mod ReadBack
 pub mod Deciding
+mod StepsRight
 mod Steps
 pub mod Sizes
 pub mod Places

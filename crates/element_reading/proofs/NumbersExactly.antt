@@ -1,28 +1,56 @@
--- What `element_at` finds keeps its promise: 01's four numbers of it, and the element's words, stand in 01's row for the place, and in no
--- other.
+-- What `element_at` finds keeps its promise: 01's four numbers of it, the fifth, and the element's words, stand in 01's row for the place,
+-- and in no other.
 -- Assumes nothing.
-use Prim.Native.Nat.{ℕ}
-use mathlib.Core.Path.{_≡_, refl, sym, ap, _∙_, subst, subst₂}
+use Prim.Native.Nat.{ℕ, _+_}
+use mathlib.Core.Path.{_≡_, refl, sym, ap, ap₂, _∙_, subst, subst₂}
 use mathlib.Core.Logic.{_↔_}
-use mathlib.Core.List.{List}
+use mathlib.Core.Bool.{Bool, true, false}
+use mathlib.Core.List.{List, []}
 use native.Mathlib.Omega.{arith}
-use lib.ListN.{length, drop, length-drop, drop-of-length-le}
+use lib.ListN.{length, take, drop, length-drop, drop-of-length-le}
+use lib.Seq.{take-append-seam}
+use Rattle.run.specs.Choice.{pick}
 use Rattle.run.specs.Head.{Head, element, refused, none}
-use Rattle.run.specs.declared.Answer.{Answer}
+use Rattle.run.specs.Grammar.{Begins}
+use Rattle.run.specs.Tagged.{tagHead}
+use Rattle.run.specs.declared.ReadAnswer.{ReadAnswer}
+use Rattle.run.specs.Answers.{answer}
+use Rattle.run.proofs.Choices.{is-false}
 use Rattle.sorts.specs.declared.Form.{Form}
 use Rattle.element_words.specs.declared.Element.{Element}
+use Rattle.element_words.specs.Words.{wordsOf}
+use Rattle.element_spelling.specs.ElementOctets.{CanonicalElement, isCanonical}
+use Rattle.element_spelling.proofs.Writer.{is-canonical}
 use Rattle.element_reading.specs.declared.Step.{Step}
+use Rattle.element_reading.specs.Grammar.{Spells}
 use Rattle.element_reading.specs.ElementHead.{headIn, stepOf, stepAt}
-use Rattle.element_reading.specs.ElementNumbers.{stepAnswer, stepWords, ElementRow}
+use Rattle.element_reading.specs.ElementNumbers.{stepReading, stepWords, reading, ElementRow}
 use Rattle.element_reading.specs.Promises.{ElementAtPromise}
 use Rattle.element_reading.proofs.Reader.{reads, refuses-exactly-by, begins-head}
+use Rattle.element_reading.proofs.ReadBack.{says-canonical}
 
 module _ (f : Form) (text : List ℕ) (at : ℕ) where
   abbrev Told : Step → Type 0
-  Told s = ElementRow f text at (stepAnswer s) (stepWords s)
+  Told s = ElementRow f text at (stepReading s) (stepWords s)
 
-  row-of : (h : Head Element) → headIn f (drop at text) ≡ h → Told (stepOf at h)
-  row-of (element e k) q = ElementRow.element (reads f .found (drop at text) e k q)
+  -- the answer, by what stands at the head
+  abbrev step : Head Element → Step
+  step h = stepOf at (tagHead (isCanonical f) (drop at text) h)
+
+  -- the octets that are tested are those that spell the element
+  piece : {e : Element} {k : ℕ} (b : Begins (Spells f) (drop at text) e k) → take k (drop at text) ≡ b .front
+  piece b = ap₂ take (b .size) (b .whole) ∙ take-append-seam (b .front) (b .rest)
+
+  element-row : (e : Element) (k : ℕ) (b : Begins (Spells f) (drop at text) e k) (t : Bool) → isCanonical f (b .front) e ≡ t
+      → ElementRow f text at (reading (answer 0 1 (at + k) (length (wordsOf e))) (pick t 0 1)) (wordsOf e)
+  element-row e k b true q = ElementRow.canonical b (says-canonical f (b .spells) q)
+  element-row e k b false q =
+      ElementRow.otherwise b (λ c. let z : true ≡ false = sym (is-canonical f c) ∙ q in let w : _≡_ {A = ℕ} 0 1 = cc in omega arith)
+
+  row-of : (h : Head Element) → headIn f (drop at text) ≡ h → Told (step h)
+  row-of (element e k) q =
+      let b = reads f .found (drop at text) e k q in
+      element-row e k b (isCanonical f (take k (drop at text)) e) (ap (λ (p : List ℕ). isCanonical f p e) (sym (piece b)))
   row-of (refused r d) q = ElementRow.refused (refuses-exactly-by f (drop at text) r d .0 q)
   row-of none q =
       let z : length (drop at text) ≡ 0 = ap length (reads f .goes (drop at text) q) in
@@ -33,19 +61,30 @@ module _ (f : Form) (text : List ℕ) (at : ℕ) where
   step-row = row-of (headIn f (drop at text)) refl
 
   by-head : (h : Head Element) → headIn f (drop at text) ≡ h
-      → (stepAnswer (stepAt f text at) ≡ stepAnswer (stepOf at h)) × (stepWords (stepAt f text at) ≡ stepWords (stepOf at h))
+      → (stepReading (stepAt f text at) ≡ stepReading (step h)) × (stepWords (stepAt f text at) ≡ stepWords (step h))
   unfolding stepAt
-  by-head h q = (ap (λ (x : Head Element). stepAnswer (stepOf at x)) q, ap (λ (x : Head Element). stepWords (stepOf at x)) q)
+  by-head h q = (ap (λ (x : Head Element). stepReading (step x)) q, ap (λ (x : Head Element). stepWords (step x)) q)
 
-  row-step : {a : Answer} {ws : List ℕ} → ElementRow f text at a ws
-      → (stepAnswer (stepAt f text at) ≡ a) × (stepWords (stepAt f text at) ≡ ws)
+  -- an element whose octets pass the test, or not
+  by-test : {e : Element} {k : ℕ} (b : Begins (Spells f) (drop at text) e k) (t : Bool) → isCanonical f (b .front) e ≡ t
+      → (stepReading (stepAt f text at) ≡ reading (answer 0 1 (at + k) (length (wordsOf e))) (pick t 0 1))
+      × (stepWords (stepAt f text at) ≡ wordsOf e)
+  by-test {e} {k} b t q =
+      let h = by-head (element e k) (begins-head f b) in
+      let z : isCanonical f (take k (drop at text)) e ≡ t = ap (λ (p : List ℕ). isCanonical f p e) (piece b) ∙ q in
+      (h .0 ∙ ap (λ (x : Bool). reading (answer 0 1 (at + k) (length (wordsOf e))) (pick x 0 1)) z, h .1)
+
+  row-step : {a : ReadAnswer} {ws : List ℕ} → ElementRow f text at a ws
+      → (stepReading (stepAt f text at) ≡ a) × (stepWords (stepAt f text at) ≡ ws)
   row-step (ElementRow.none-left h) = by-head none (ap (headIn f) (drop-of-length-le text h) ∙ reads f .ends)
-  row-step (ElementRow.element {e} {k} b) = by-head (element e k) (begins-head f b)
+  row-step (ElementRow.canonical b c) = by-test b true (is-canonical f c)
+  row-step (ElementRow.otherwise {e} b n) =
+      by-test b false (is-false (isCanonical f (b .front) e) (λ q. n (says-canonical f (b .spells) q)))
   row-step (ElementRow.refused {r} {d} h) = by-head (refused r d) (refuses-exactly-by f (drop at text) r d .1 h)
 
-  -- The four numbers of the answer at a place, and the words of the element read there, are exactly those of 01's row.
-  pub step-exactly : (a : Answer) (ws : List ℕ)
-      → ElementRow f text at a ws ↔ ((stepAnswer (stepAt f text at) ≡ a) × (stepWords (stepAt f text at) ≡ ws))
+  -- The five numbers of the answer at a place, and the words of the element read there, are exactly those of the row.
+  pub step-exactly : (a : ReadAnswer) (ws : List ℕ)
+      → ElementRow f text at a ws ↔ ((stepReading (stepAt f text at) ≡ a) × (stepWords (stepAt f text at) ≡ ws))
   step-exactly a ws = (row-step, λ e. subst₂ (ElementRow f text at) (e .0) (e .1) step-row)
 
   pub step-kept : (r : Step) → r ≡ stepAt f text at → ElementAtPromise f text at r

@@ -9,9 +9,11 @@ use lib.Dec.{lit≤}
 use Rattle.element_reading.specs.ElementNumbers.{InsideText}
 use Rattle.run.specs.Head.{Head, element, refused, none}
 use Rattle.run.specs.Grammar.{Begins}
+use Rattle.run.specs.Tagged.{tagHead}
 use Rattle.sorts.specs.declared.Form.{Form}
 use Rattle.sequence_reading.specs.Grammar.{RefusesSequence}
 use Rattle.element_words.specs.declared.Element.{Element}
+use Rattle.element_spelling.specs.ElementOctets.{isCanonical}
 use Rattle.element_reading.specs.Grammar.{Spells, Refuses}
 use Rattle.element_reading.specs.ElementHead.{headIn, stepOf, stepAt}
 use Rattle.element_reading.proofs.Reader.{reads, refuses-exactly-by}
@@ -60,7 +62,7 @@ module _ (f : Form) where
       l : length (drop at text) ≡ length text - at
       l = length-drop at text
 
-      go : (h : Head Element) → headIn f (drop at text) ≡ h → InsideText text at (stepOf at h)
+      go : (h : Head Element) → headIn f (drop at text) ≡ h → InsideText text at (stepOf at (tagHead (isCanonical f) (drop at text) h))
       go (element e k) q =
           let b = reads f .found (drop at text) e k q in
           let z : length (drop at text) ≡ length (b .front) + length (b .rest) =

@@ -8,6 +8,7 @@ use lib.ListN.{drop}
 use lib.Dec.{eqb}
 use Rattle.run.specs.Choice.{pick}
 use Rattle.run.specs.Head.{Head, element, refused, none}
+use Rattle.run.specs.Tagged.{tagged}
 use Rattle.sorts.specs.declared.Form.{Form}
 use Rattle.sorts.specs.declared.Sort.{Sort}
 use Rattle.sorts.specs.declared.Sort.the-variants.{Graphic, Mark, Underline, Shift, Control, SequenceStart, Refused}
@@ -22,6 +23,7 @@ use Rattle.element_words.specs.declared.Element.the-variants.{One}
 use Rattle.element_reading.specs.declared.Step.{Step}
 use Rattle.element_reading.specs.declared.Step.the-variants.{Element as Read, Refused as Stopped, End}
 use Rattle.element_words.specs.Words.{graphicWord, controlWord, sequenceElement}
+use Rattle.element_spelling.specs.ElementOctets.{isCanonical}
 
 -- "at one octet 5 goes first": 5 for an octet of 80 or above in seven bits, else the number of what may not stand there
 abbrev pub highOr : ℕ → Sort → ℕ
@@ -81,12 +83,16 @@ headIn f (o ∷ t) = headSort f (sortIn f o) o t
 
 -- ---- the answer at a place
 
-abbrev pub stepOf : ℕ → Head Element → Step
-stepOf at (element e k) = Read e (at + k)
+-- document 02, No. 5: "Each element read must also say whether it stood in its form's canonical spelling"
+abbrev pub canonicalHead : Form → List ℕ → Head (Element × Bool)
+canonicalHead f = tagged (isCanonical f) (headIn f)
+
+abbrev pub stepOf : ℕ → Head (Element × Bool) → Step
+stepOf at (element x k) = Read (x .0) (at + k) (x .1)
 stepOf at (refused r d) = Stopped r at (at + d)
 stepOf at none = End
 
 -- "Each element read answers with the element and the place after it, or with its refusal .. Asked at or past the end of the text, it
 -- answers that none is left."
 unfoldable pub stepAt : Form → List ℕ → ℕ → Step
-stepAt f text at = stepOf at (headIn f (drop at text))
+stepAt f text at = stepOf at (canonicalHead f (drop at text))

@@ -11,13 +11,14 @@ ghost use Rattle.sorts.specs.declared.Sort.the-variants.{Graphic};
 ghost use Rattle.sequence_reading.specs.SequenceHead.{sequenceHead};
 ghost use Rattle.element_words.specs.Words.{sequencesFrom, graphicWord};
 ghost use Rattle.element_reading.specs.declared.Step.the-variants.{Refused as Stopped};
-ghost use Rattle.element_reading.specs.ElementHead.{highOr, followerHead, secondSort, shiftedHead, underlinedHead, asElement, stepOf};
+ghost use Rattle.element_reading.specs.ElementHead.{highOr, followerHead, secondSort, shiftedHead, underlinedHead, asElement};
+ghost use Rattle.element_reading.specs.StepTests.{stepBy};
 ghost use Rattle.element_reading.specs.Promises.{ElementAtPromise};
 
 // What stands at a place.
 pub enum Step {
-    // the element, and the place after it
-    Element(Element, usize),
+    // the element, the place after it, and whether it stood in its form's canonical spelling
+    Element(Element, usize, bool),
     // why it is refused, the place of its first entry, and the deciding octet's
     Refused {
         number: usize,
@@ -68,7 +69,7 @@ fn high_or(sort: Sort, number: usize) -> usize
 // What follows a mark: the follower stands at `i` of the element that begins at `at`.
 fn follower_step(form: Form, mark: u8, under: bool, text: &[u8], at: usize, i: usize) -> Step
     requires { ⌜ (at ≤ i) × (i ≤ length (now text)) ⌝ }
-    ensures { λ r. ⌜ r ≡ stepOf at (followerHead form mark under (i - at) (drop i (now (text .entry)))) ⌝ }
+    ensures { λ r. ⌜ r ≡ stepBy form (now (text .entry)) at (followerHead form mark under (i - at) (drop i (now (text .entry)))) ⌝ }
 {
     if text.len() <= i {
         return refused_at(4, at, i);
@@ -78,16 +79,28 @@ fn follower_step(form: Form, mark: u8, under: bool, text: &[u8], at: usize, i: u
     let Found::Char(c) = found else {
         return refused_at(high_or(sorts::sort_in(form, l), 3), at, i);
     };
-    Step::Element(Element::One(graphic_word(under, c)), i + 1)
+    let word = graphic_word(under, c);
+    Step::Element(
+        Element::One(word),
+        i + 1,
+        canonical_tests::word_is_canonical(form, word, l, i + 1 - at),
+    )
 }
 
 // What follows the SS2 or CC at `at`, by the sort of the octet there; what may not follow is refused with a number.
 fn second_step(form: Form, sort: Sort, under: bool, number: usize, text: &[u8], at: usize) -> Step
     requires { ⌜ (at + 1 < length (now text)) × ((c : ℕ) → sort ≡ Graphic c → c < 0x10000) ⌝ }
-    ensures { λ r. ⌜ r ≡ stepOf at (secondSort form under number sort (drop (at + 2) (now (text .entry)))) ⌝ }
+    ensures { λ r. ⌜ r ≡ stepBy form (now (text .entry)) at (secondSort form under number sort (drop (at + 2) (now (text .entry)))) ⌝ }
 {
     match sort {
-        Sort::Graphic(c) => Step::Element(Element::One(graphic_word(under, c)), at + 2),
+        Sort::Graphic(c) => {
+            let word = graphic_word(under, c);
+            Step::Element(
+                Element::One(word),
+                at + 2,
+                canonical_tests::word_is_canonical(form, word, text[at + 1], 2),
+            )
+        }
         Sort::Mark(m) => follower_step(form, m, under, text, at, at + 2),
         _ => refused_at(high_or(sort, number), at, at + 1),
     }
@@ -96,7 +109,7 @@ fn second_step(form: Form, sort: Sort, under: bool, number: usize, text: &[u8], 
 // What follows the SS2 at `at`. 01: SS2 stands "before the supplementary octet only; the letter of a pair follows bare".
 fn shift_step(form: Form, text: &[u8], at: usize) -> Step
     requires { ⌜ at < length (now text) ⌝ }
-    ensures { λ r. ⌜ r ≡ stepOf at (shiftedHead form (drop (at + 1) (now (text .entry)))) ⌝ }
+    ensures { λ r. ⌜ r ≡ stepBy form (now (text .entry)) at (shiftedHead form (drop (at + 1) (now (text .entry)))) ⌝ }
 {
     let i = at + 1;
     if text.len() <= i {
@@ -108,7 +121,7 @@ fn shift_step(form: Form, text: &[u8], at: usize) -> Step
 // What follows the CC at `at`. 01: "CC stands before a spacing character, or before a mark with its follower."
 fn underline_step(form: Form, text: &[u8], at: usize) -> Step
     requires { ⌜ at < length (now text) ⌝ }
-    ensures { λ r. ⌜ r ≡ stepOf at (underlinedHead form (drop (at + 1) (now (text .entry)))) ⌝ }
+    ensures { λ r. ⌜ r ≡ stepBy form (now (text .entry)) at (underlinedHead form (drop (at + 1) (now (text .entry)))) ⌝ }
 {
     let i = at + 1;
     if text.len() <= i {
@@ -127,7 +140,7 @@ fn head_word(middle: u8, last: u8, count: usize) -> u32
 
 // The control sequence at `at`.
 fn sequence_step(text: &[u8], at: usize) -> Step
-    ensures { λ r. ⌜ r ≡ stepOf at (asElement (sequenceHead (drop at (now (text .entry))))) ⌝ }
+    ensures { λ r. ⌜ ((f : Form) → r ≡ stepBy f (now (text .entry)) at (asElement (sequenceHead (drop at (now (text .entry)))))) ⌝ }
 {
     let reading = sequence_reading::read_sequence(text, at);
     match reading {
@@ -144,6 +157,7 @@ fn sequence_step(text: &[u8], at: usize) -> Step
                 values,
             },
             next,
+            canonical_tests::sequence_is_canonical(&text[at..next - 1]),
         ),
         Reading::Refused { number, deciding } => refused_at(number, at, deciding),
         Reading::End => Step::End,
@@ -161,14 +175,22 @@ pub fn element_at(form: Form, text: &[u8], at: usize) -> Step
     let o = text[at];
     let sort = sorts::sort_in(form, o);
     match sort {
-        Sort::Graphic(c) => Step::Element(Element::One(c), at + 1),
+        Sort::Graphic(c) => Step::Element(
+            Element::One(c),
+            at + 1,
+            canonical_tests::word_is_canonical(form, c, o, 1),
+        ),
         Sort::Mark(m) => follower_step(form, m, false, text, at, at + 1),
         Sort::Underline => underline_step(form, text, at),
         Sort::Shift => shift_step(form, text, at),
-        Sort::Control => Step::Element(
-            Element::One(element_words::CONTROLS_FROM + o as u32),
-            at + 1,
-        ),
+        Sort::Control => {
+            let word = element_words::CONTROLS_FROM + o as u32;
+            Step::Element(
+                Element::One(word),
+                at + 1,
+                canonical_tests::word_is_canonical(form, word, o, 1),
+            )
+        }
         Sort::SequenceStart => sequence_step(text, at),
         Sort::Refused(n) => refused_at(n, at, at),
     }

@@ -1,5 +1,5 @@
--- Canonical spelling of an element: the definition gives exactly the relation; it reads back; what a form reads it holds; and writing
--- keeps the record of promises of `run`. Over the form.
+-- Canonical spelling of an element: the definition gives exactly the relation, the test says it of octets, and writing keeps the record of
+-- promises of `run`. Over the form.
 -- Assumes nothing.
 use Prim.Native.Nat.{ℕ, _+_, _-_, _≤_, _<_}
 use mathlib.Core.Path.{_≡_, refl, sym, ap, ap₂, _∙_, subst, subst₂}
@@ -10,38 +10,33 @@ use native.Mathlib.Omega.{arith}
 use lib.ListN.{length}
 use lib.Dec.{ltb, eqb}
 use borrow.Author.Tests.{lt-ltb, le-ltb, ltb-false, eqb-true}
-use Rattle.run.specs.Choice.{pick}
+use Rattle.run.specs.Choice.{pick, sameOctets}
 use Rattle.run.specs.Head.{Head, element, refused, none}
 use Rattle.run.specs.Grammar.{Reads}
 use Rattle.run.specs.Speller.{SpeltBy, Why, by-head, not-spelt}
-use Rattle.run.proofs.Choices.{pick-case}
+use Rattle.run.proofs.Choices.{pick-case, same-octets-are, are-same-octets}
 use Rattle.run.proofs.Spellers.{reads-as, spelt-reads, why}
 use Rattle.sorts.specs.declared.Form.{Form}
-use Rattle.sorts.specs.declared.Sort.the-variants.{Underline, Shift, Control}
+use Rattle.sorts.specs.declared.Sort.the-variants.{Underline, Control}
 use Rattle.spelling.specs.declared.Spelling.{Spelling}
 use Rattle.spelling.specs.declared.Spelling.the-variants.{One as Single, Shifted, Pair, ShiftedPair, Unspelt}
-use Rattle.sorts.specs.Forms.{SS2, CC, CSI}
+use Rattle.sorts.specs.Forms.{CC, CSI}
 use Rattle.sorts.specs.Sorts.{sortIn}
-use Rattle.spelling.specs.CanonicalSpelling.{octetsOf, Codes, Canonical}
+use Rattle.spelling.specs.CanonicalSpelling.{octetsOf, Canonical}
 use Rattle.spelling.specs.SpellingGiven.{spellIn}
-use Rattle.spelling.proofs.CanonicalExactly.{exactly, reads-back, has-canonical}
+use Rattle.spelling.proofs.CanonicalExactly.{exactly, reads-back}
 use Rattle.spelling.proofs.SpellingFacts.{code-point-small}
-use Rattle.sorts.proofs.SortFacts.{shift-is, underline-is, sequence-is, control-small}
-use Rattle.sequence_reading.specs.Grammar.{Sequence, SpellsSequence}
+use Rattle.sorts.proofs.SortFacts.{control-small}
+use Rattle.sequence_reading.specs.Grammar.{Sequence}
 use Rattle.sequence_spelling.specs.SequenceOctets.{Fine, CanonicalSequence, spellSequence}
-use Rattle.sequence_reading.proofs.Reader.{sequence-reads}
-use Rattle.sequence_spelling.proofs.Back.{read-fine}
-use Rattle.sequence_spelling.proofs.Exactly.{canonical-exactly, spells-canonical}
+use Rattle.sequence_spelling.proofs.Exactly.{canonical-exactly}
 use Rattle.element_words.specs.declared.Element.{Element}
 use Rattle.element_words.specs.declared.Element.the-variants.{One}
 use Rattle.element_words.specs.Words.{underlinedFrom, controlsFrom, sequencesFrom}
 use Rattle.element_words.specs.Words.{graphicWord, controlWord, headWord, sequenceElement, wordsOf, Proper, Means, means, sequenceOf}
 use Rattle.element_words.specs.Words.{wordHead}
-use Rattle.element_reading.specs.Grammar.{Awaits, Spells}
-use Rattle.element_reading.specs.ElementHead.{headIn}
-use Rattle.element_reading.proofs.Reader.{reads}
 use Rattle.element_spelling.specs.ElementOctets.{CanonicalElement, Held, Writes, NoneHeld, sortTag, afterCC, spellWord}
-use Rattle.element_spelling.specs.ElementOctets.{spellSequenceWords, spellElement, spellHead}
+use Rattle.element_spelling.specs.ElementOctets.{spellSequenceWords, spellElement, isCanonical, spellHead}
 use Rattle.element_spelling.proofs.Steps.{tag-back}
 use Rattle.sequence_reading.proofs.EightValues.{values-back}
 use Rattle.element_words.proofs.Words.{sequence-back, is-sequence, words-read, words-refused}
@@ -68,16 +63,16 @@ nothing-after x n e = n (ap (λ (y : Spelling). afterCC (octetsOf y)) e)
 module _ (f : Form) where
   -- ---- the words of each kind of element, spelt
 
-  spell-graphic : (c : ℕ) → c < underlinedFrom → spellWord f (graphicWord false c) ≡ octetsOf (spellIn f c)
+  pub spell-graphic : (c : ℕ) → c < underlinedFrom → spellWord f (graphicWord false c) ≡ octetsOf (spellIn f c)
   spell-graphic c h = rw (lt-ltb c underlinedFrom h)
 
-  spell-underlined : (c : ℕ) → c < underlinedFrom → sortIn f CC ≡ Underline
+  pub spell-underlined : (c : ℕ) → c < underlinedFrom → sortIn f CC ≡ Underline
       → spellWord f (graphicWord true c) ≡ afterCC (octetsOf (spellIn f c))
   spell-underlined c h s =
       let w : underlinedFrom + c - underlinedFrom ≡ c = omega arith in
       rw (le-ltb (underlinedFrom + c) underlinedFrom (omega arith), lt-ltb (underlinedFrom + c) controlsFrom (omega arith), s, w)
 
-  spell-control : (o : ℕ) → o < controlsFrom → sortIn f o ≡ Control → spellWord f (controlWord o) ≡ o ∷ []
+  pub spell-control : (o : ℕ) → o < controlsFrom → sortIn f o ≡ Control → spellWord f (controlWord o) ≡ o ∷ []
   spell-control o h s =
       let w : controlsFrom + o - controlsFrom ≡ o = omega arith in
       rw (
@@ -88,7 +83,7 @@ module _ (f : Form) where
         s,
       )
 
-  spell-sequence : (q : Sequence) → Fine q
+  pub spell-sequence : (q : Sequence) → Fine q
       → spellElement f (sequenceElement q) ≡ pick (eqb (sortTag (sortIn f CSI)) 4) (spellSequence q) []
   unfolding spellElement
   spell-sequence q fine =
@@ -211,53 +206,18 @@ module _ (f : Form) where
   pub one-spelling : {s t : List ℕ} {e : Element} → CanonicalElement f s e → CanonicalElement f t e → s ≡ t
   one-spelling k h = sym (canonical-given k) ∙ canonical-given h
 
-  -- ---- it reads back
+  -- ---- the test of it
 
-  codes-spell : {c : ℕ} {x : Spelling} → Codes f c x → Spells f (octetsOf x) (One (graphicWord false c))
-  codes-spell (Codes.one e) = Spells.graphic e
-  codes-spell (Codes.shifted s e) = Spells.shifted s e
-  codes-spell (Codes.pair {l = l} e q) = Spells.pair l (Awaits.mark e) q
-  codes-spell (Codes.shifted-pair {l = l} s e q) = Spells.pair l (Awaits.shifted-mark s e) q
+  -- a canonical spelling passes it
+  pub is-canonical : {s : List ℕ} {e : Element} → CanonicalElement f s e → isCanonical f s e ≡ true
+  is-canonical {s} {e} k = ap (sameOctets s) (canonical-given k) ∙ are-same-octets s
 
-  codes-underlined : {c : ℕ} {x : Spelling} → sortIn f CC ≡ Underline → Codes f c x → Spells f (CC ∷ octetsOf x) (One (graphicWord true c))
-  codes-underlined u (Codes.one e) = Spells.underlined u e
-  codes-underlined u (Codes.shifted s e) = absurd (underline-is f CC u .1 s)
-  codes-underlined u (Codes.pair {l = l} e q) = Spells.pair l (Awaits.underlined-mark u e) q
-  codes-underlined u (Codes.shifted-pair s e q) = absurd (underline-is f CC u .1 s)
-
-  -- The canonical spelling spells its element, so it is read back as that element, whatever follows.
-  pub canonical-spells : {s : List ℕ} {e : Element} → CanonicalElement f s e → Spells f s e
-  canonical-spells (CanonicalElement.graphic {c} k) = codes-spell (reads-back f c k)
-  canonical-spells (CanonicalElement.underlined {c} u k) = codes-underlined u (reads-back f c k)
-  canonical-spells (CanonicalElement.control s) = Spells.control s
-  canonical-spells (CanonicalElement.sequence {q = q} st (CanonicalSequence.canonical h p i)) =
-      let e = canonical-exactly _ q .0 (CanonicalSequence.canonical h p i) in
-      Spells.sequence st (subst (λ (x : List ℕ). SpellsSequence x q) (sym (e .1)) (spells-canonical (e .0)))
-
-  -- ---- what a form reads it holds
-
-  hold : {c : ℕ} {x : Spelling} → Codes f c x → Held f (One (graphicWord false c))
-  hold {c} {x} k = Held.held (CanonicalElement.graphic (has-canonical f c .1 (x, k) .1))
-
-  hold-underlined : {c : ℕ} {x : Spelling} (u : ℕ) → sortIn f u ≡ Underline → Codes f c x → Held f (One (graphicWord true c))
-  hold-underlined {c} {x} u s k =
-      Held.held (CanonicalElement.underlined (sym (ap (sortIn f) (underline-is f u s .0)) ∙ s) (has-canonical f c .1 (x, k) .1))
-
-  shift-sorts : (s : ℕ) → sortIn f s ≡ Shift → sortIn f SS2 ≡ Shift
-  shift-sorts s e = sym (ap (sortIn f) (shift-is f s e .0)) ∙ e
-
-  pub read-held : {p : List ℕ} {e : Element} → Spells f p e → Held f e
-  read-held (Spells.graphic e) = hold (Codes.one e)
-  read-held (Spells.shifted {s} k e) = hold (Codes.shifted (shift-sorts s k) e)
-  read-held (Spells.underlined {u} k e) = hold-underlined u k (Codes.one e)
-  read-held (Spells.pair l (Awaits.mark e) q) = hold (Codes.pair e q)
-  read-held (Spells.pair l (Awaits.shifted-mark {s} k e) q) = hold (Codes.shifted-pair (shift-sorts s k) e q)
-  read-held (Spells.pair l (Awaits.underlined-mark {u} k e) q) = hold-underlined u k (Codes.pair e q)
-  read-held (Spells.control e) = Held.held (CanonicalElement.control e)
-  read-held (Spells.sequence {o} {p} {q} k h) =
-      let fine = read-fine ((o ∷ p) ++ []) q (length (o ∷ p)) (sequence-reads .finds (o ∷ p) [] q h) in
-      Held.held (CanonicalElement.sequence (sym (ap (sortIn f) (sequence-is f o k)) ∙ k)
-      (canonical-exactly (spellSequence q) q .1 (fine, refl)))
+  -- Of octets of an element that some words are, the test says exactly whether they are its canonical spelling.
+  pub canonical-test : (p : List ℕ) (e : Element) → Proper e → (p ≡ [] → ⊥) → (isCanonical f p e ≡ true) ↔ CanonicalElement f p e
+  canonical-test p e h n = (
+    λ q. spells-exactly p e .1 (h, sym (same-octets-are p (spellElement f e) q), n),
+    is-canonical,
+  )
 
   -- ---- writing keeps the record of promises
 
@@ -314,7 +274,3 @@ module _ (f : Form) where
           absurd (n .2 .not-held (w .0) (b .rest) (w .1) (b .whole ∙ ap (λ (l : List ℕ). l ++ b .rest) (w .2)))
       back (refused r′ d′) q n = let z = writer-refuses ws r′ d′ q in q ∙ ap₂ refused (sym (z .0) ∙ sym (n .0)) (sym (z .1) ∙ sym (n .1))
       back none q n = absurd (omega (arith, n .2 .some, ap length (writer-reads .goes ws q)))
-
-  -- An element's canonical spelling reads back as that element, whatever follows it.
-  pub canonical-reads : (s t : List ℕ) (e : Element) → CanonicalElement f s e → headIn f (s ++ t) ≡ element e (length s)
-  canonical-reads s t e c = reads f .finds s t e (canonical-spells c)

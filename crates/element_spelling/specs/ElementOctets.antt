@@ -1,5 +1,5 @@
 -- To be believed, as relations: the canonical spelling of an element, what a form holds and writes. Proved equal to that, the definitions
--- that give it (Writer: spells-exactly, writer-reads). Last, parts of the code.
+-- that give it (Writer: spells-exactly, writer-reads), and the test of it (Writer: canonical-test). Last, parts of the code.
 -- Assumes nothing.
 use Prim.Native.Nat.{ℕ, _-_, _<_}
 use mathlib.Core.Path.{_≡_}
@@ -7,7 +7,7 @@ use mathlib.Core.Bool.{Bool, true, false}
 use mathlib.Core.List.{List, [], _∷_, _++_}
 use lib.ListN.{length, take}
 use lib.Dec.{ltb, eqb}
-use Rattle.run.specs.Choice.{pick}
+use Rattle.run.specs.Choice.{pick, sameOctets}
 use Rattle.run.specs.Head.{Head}
 use Rattle.run.specs.Speller.{speltBy}
 use Rattle.sorts.specs.declared.Form.{Form}
@@ -89,6 +89,10 @@ spellSequenceWords f h vs =
 unfoldable pub spellElement : Form → Element → List ℕ
 spellElement f (One w) = spellWord f w
 spellElement f (SequenceOf h n vs) = spellSequenceWords f h (take n (listOf vs))
+
+-- whether octets of an element are its canonical spelling
+abbrev pub isCanonical : Form → List ℕ → Element → Bool
+isCanonical f p e = sameOctets p (spellElement f e)
 
 -- what stands at the head of a list of words, as the octets that are written for it; number 10: "an element not in the target form"
 abbrev pub spellHead : Form → List ℕ → Head (List ℕ)

@@ -3,39 +3,52 @@
 -- Assumes nothing.
 use Prim.Native.Nat.{ℕ, _+_, _-_}
 use mathlib.Core.Path.{_≡_}
+use mathlib.Core.Bool.{Bool, true}
 use mathlib.Core.List.{List, map}
-use lib.Dec.{ltb}
+use lib.Dec.{eqb, ltb}
 use lib.ListN.{getD}
 use Rattle.sorts.specs.declared.Found.the-variants.{Char}
 use Rattle.run.specs.Choice.{pick}
 use Rattle.sorts.specs.declared.Form.{Form}
 use Rattle.sorts.specs.declared.Sort.{Sort}
 use Rattle.sorts.specs.declared.Sort.the-variants.{Graphic, Mark, Underline, Shift, Control, SequenceStart, Refused}
+use Rattle.sorts.specs.declared.Octet.{Octet}
+use Rattle.sorts.specs.declared.Octet.the-variants.{Is, Absent}
+use Rattle.sorts.specs.Cells.{octetIn}
+use Rattle.sorts.specs.Forms.{alphabetOf}
 use Rattle.sorts.specs.Tables.{consecutive}
 use Rattle.squares.specs.Squares.{rowOf, columnOf, squareIn, squareOf}
 use Rattle.sorts.specs.Sorts.{sortIn}
 
--- What each octet is by itself, as one number: a spacing character is its code point; from here on there is none (01's highest is 266A)
+-- What each octet is by itself, as one number: a spacing character that is spelt canonically by it is its code point; from here on there is
+-- none (01's highest is 266A)
 abbrev pub noCharacter : ℕ
 noCharacter = 0x8000
 
--- neither a spacing character nor a mark: the row behind the last, which `rowOf` gives of no mark
+-- neither such a spacing character nor a mark: the row behind the last, which `rowOf` gives of no mark
 abbrev pub neither : ℕ
 neither = noCharacter + 13
 
--- a mark is its row, counted from there
-abbrev pub codeOf : Sort → ℕ
-codeOf (Graphic c) = c
-codeOf (Mark m) = noCharacter + rowOf m
-codeOf Underline = neither
-codeOf Shift = neither
-codeOf Control = neither
-codeOf SequenceStart = neither
-codeOf (Refused n) = neither
+-- whether o is the octet that is written for a character, where the form names one: "Form 3 writes the number sign A6 and the currency
+-- sign A8."
+abbrev pub isWritten : Octet → ℕ → Bool
+isWritten (Is w) o = eqb o w
+isWritten Absent o = true
+
+-- what an octet o of the form f is, by its sort: a spacing character where o is written for it, and so canonical; a mark is its row, counted
+-- from there
+abbrev pub codeOf : Form → ℕ → Sort → ℕ
+codeOf f o (Graphic c) = pick (isWritten (octetIn (alphabetOf f .writes) c) o) c neither
+codeOf f o (Mark m) = noCharacter + rowOf m
+codeOf f o Underline = neither
+codeOf f o Shift = neither
+codeOf f o Control = neither
+codeOf f o SequenceStart = neither
+codeOf f o (Refused n) = neither
 
 unfoldable pub codeTable : Form → List ℕ
-unfolding sortIn rowOf
-codeTable f = map (λ o. codeOf (sortIn f o)) (consecutive 0x00 256)
+unfolding sortIn rowOf alphabetOf
+codeTable f = map (λ o. codeOf f o (sortIn f o)) (consecutive 0x00 256)
 
 -- an entry of such a table; past FF there is no octet, and neither
 abbrev pub codeIn : List ℕ → ℕ → ℕ

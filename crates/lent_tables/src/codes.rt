@@ -1,4 +1,5 @@
-// What each octet is by itself in a form: a spacing character; or, counted from 2^15, the row of a mark, and 13 where it is neither.
+// What each octet is by itself in a form: a spacing character, where the octet is its canonical spelling; or, counted from 2^15, the
+// row of a mark, and 13 where it is neither.
 
 // Form 1.
 pub const EIGHT: [u16; 256] = [
@@ -592,8 +593,8 @@ pub const BASIC: [u16; 256] = [
     0x0020,
     0x0021,
     0x0022,
-    0x0023,
-    0x00A4,
+    0x800D,
+    0x800D,
     0x0025,
     0x0026,
     0x0027,

@@ -4,10 +4,11 @@ mod codes;
 use sorts::Form;
 ghost use Rattle.lent_tables.specs.Promises.{CodeTablePromise, CodeInPromise, PairedInPromise};
 
-// What an octet is by itself, as one number: a spacing character's code point; from here on a mark's row, and 13 where it is neither.
+// What an octet is by itself, as one number: the code point of a spacing character whose canonical spelling it is; from here on a mark's
+// row, and 13 where it is neither.
 pub const NO_CHARACTER: u32 = 0x8000;
 
-// From here on the octet is neither a spacing character nor a mark.
+// From here on the octet is neither such a spacing character nor a mark: 23 and 24 of form 3 are among these.
 pub const NEITHER: u32 = NO_CHARACTER + 13;
 
 // The table of what each octet of a form is by itself, to be lent: made once for a whole text.

@@ -1,6 +1,7 @@
 // Answers, and answers as text. A function that puts does so at a place of a lent text, where there is room, and answers the place
 // after it.
 use run::Answer;
+use run::ReadAnswer;
 pub use run::put;
 
 // The answer to a vector that the program has no room for.
@@ -93,6 +94,18 @@ pub fn put_numbers(out: &mut [u8], at: usize, answer: Answer) -> usize {
 // The four numbers, and a comma.
 pub fn put_answer(out: &mut [u8], answer: Answer) -> usize {
     let next = put_numbers(out, 0, answer);
+    put(out, next, b',')
+}
+
+// The five numbers of a reading or a conversion.
+pub fn put_reading(out: &mut [u8], at: usize, reading: ReadAnswer) -> usize {
+    let next = put_numbers(out, at, reading.answer);
+    put_after_space(out, next, reading.respelled)
+}
+
+// The five numbers, and a comma.
+pub fn put_read_answer(out: &mut [u8], reading: ReadAnswer) -> usize {
+    let next = put_reading(out, 0, reading);
     put(out, next, b',')
 }
 

@@ -34,8 +34,9 @@ fn say_page(case: &[u8], page: usize) {
     let Page::Is(a) = found else {
         return;
     };
+    let numbers = a.answer;
     say_number(b"page", page);
-    say_number(b" elements", a.element);
+    say_number(b" elements", numbers.element);
     say(b"\n");
 }
 

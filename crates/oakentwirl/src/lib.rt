@@ -1,12 +1,13 @@
 // The library for C: each function under its plain name, as include/oakentwirl.h declares it, over the proved function that does the work.
 use compare::Comparison;
 use run::Answer;
+use run::ReadAnswer;
 use serial::Carry;
 use serial::Fed;
 use tlx::CaseAnswer;
 ghost use mathlib.Core.Bool.{not};
 ghost use lib.Dec.{eqb};
-ghost use Rattle.text_reading.specs.Promises.{ReadPromise};
+ghost use Rattle.text_reading.specs.Promises.{ReadPromise, ReadOnePromise};
 ghost use Rattle.text.specs.Promises.{WritePromise, ConvertPromise};
 ghost use Rattle.compare.specs.Promises.{ComparedPromise};
 ghost use Rattle.serial.specs.Promises.{FreshPromise, FeedPromise};
@@ -15,10 +16,18 @@ ghost use Rattle.case_writing.specs.Promises.{WriteCasePromise};
 
 // Reads a whole text.
 #[no_mangle]
-pub extern "C" fn oak_read(form: u32, text: &[u8], words: &mut [u32]) -> Answer
+pub extern "C" fn oak_read(form: u32, text: &[u8], words: &mut [u32]) -> ReadAnswer
     ensures { λ r. ⌜ ReadPromise form (now (text .entry)) (now (words .entry)) r (now (words .exit)) ⌝ }
 {
     text::read(form, text, words)
+}
+
+// Reads one element at a place of a text.
+#[no_mangle]
+pub extern "C" fn oak_element(form: u32, text: &[u8], at: usize, words: &mut [u32]) -> ReadAnswer
+    ensures { λ r. ⌜ ReadOnePromise form (now (text .entry)) at (now (words .entry)) r (now (words .exit)) ⌝ }
+{
+    text::read_one(form, text, at, words)
 }
 
 // Writes a list of words.
@@ -31,7 +40,7 @@ pub extern "C" fn oak_write(form: u32, words: &[u32], text: &mut [u8]) -> Answer
 
 // Converts a whole text from one form to another.
 #[no_mangle]
-pub extern "C" fn oak_convert(source: u32, target: u32, text: &[u8], out: &mut [u8]) -> Answer
+pub extern "C" fn oak_convert(source: u32, target: u32, text: &[u8], out: &mut [u8]) -> ReadAnswer
     ensures { λ r. ⌜ ConvertPromise source target (now (text .entry)) (now (out .entry)) r (now (out .exit)) ⌝ }
 {
     text::convert(source, target, text, out)

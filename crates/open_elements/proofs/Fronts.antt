@@ -1,4 +1,5 @@
--- What was read of a text up to its end or its first fault, by what the text comes to: its words are those of the run before.
+-- What was read of a text up to its end or its first fault, by what the text comes to: its words, and how many of its elements were not
+-- canonical, are those of the run before.
 -- Assumes nothing.
 use Prim.Native.Nat.{ℕ, _+_, _≤_, _<_}
 use mathlib.Core.Path.{_≡_, refl, sym, ap, _∙_, subst}
@@ -12,21 +13,29 @@ use Rattle.run.specs.Before.{Standing, whats}
 use Rattle.run.specs.Answers.{answer, given}
 use Rattle.run.proofs.Outcomes as outcomes
 use Rattle.run.proofs.Before.{given-before, before-fault, standing-whats}
+use Rattle.run.proofs.Tallies.{tally-joined, tally-few}
 use Rattle.sorts.specs.declared.Form.{Form}
 use Rattle.element_words.specs.declared.Element.{Element}
 use Rattle.element_words.specs.Words.{wordsOf}
+use Rattle.element_spelling.specs.ElementOctets.{isCanonical}
 use Rattle.element_reading.specs.ElementHead.{headIn}
 use Rattle.element_reading.specs.Grammar.{Spells}
 use Rattle.element_reading.proofs.Reader.{reads, refuses-exactly-by}
 use Rattle.text_loops.specs.declared.Measured.{Measured}
-use Rattle.text_loops.specs.Fronts.{readIn, measured, wordsBefore}
+use Rattle.text_loops.specs.Fronts.{readIn, measured, wordsBefore, respelledBefore}
+use Rattle.text_loops.proofs.Tallied.{tally-start, tally-stop}
 use Rattle.text_reading.specs.ReadingNumbers.{ReadingFault}
 use Rattle.text_reading.proofs.ReadTexts.{refused-exactly}
 use Rattle.open_elements.proofs.Faults.{fault-small, run-small}
 
 module _ (f : Form) (s : List ℕ) where
   pub accepted-measured : (fs : List Element) → readIn f s ≡ accepted fs
-      → (measured f s ≡ record { answer = answer 0 (length fs) (length s) (length (given wordsOf fs)); words = length (given wordsOf fs) })
+      → (measured f s
+      ≡ record {
+        answer = answer 0 (length fs) (length s) (length (given wordsOf fs));
+        words = length (given wordsOf fs);
+        respelled = respelledBefore f s;
+      })
       × (wordsBefore f s ≡ given wordsOf fs)
   accepted-measured fs q =
       let w = given-before (reads f) wordsOf s fs q in
@@ -62,10 +71,25 @@ module _ (f : Form) (s : List ℕ) where
       record { fault = at; words = fault-words at }
 
   pub refused-measured : {r n p d : ℕ} (q : readIn f s ≡ refusal r n p d) (z : ReadTo r n p d)
-      → measured f s ≡ record { answer = answer r n p d; words = length (given wordsOf (z .fault .elements)) }
+      → measured f s
+      ≡ record { answer = answer r n p d; words = length (given wordsOf (z .fault .elements)); respelled = respelledBefore f s }
   refused-measured {r} q z = let t = le-leb r 8 (fault-small (z .fault) .number) in rw (q, z .words, t)
 
--- ---- what was read, its numbers: no more elements and words than octets; a refusal is one of 1 to 8, and decided behind its first octet
+-- ---- how many elements were not canonical: of a text that is refused, those of the run before the fault
+
+pub head-respelled : (f : Form) (s : List ℕ) {r d : ℕ} → headIn f s ≡ refused r d → respelledBefore f s ≡ 0
+head-respelled f s q = sym (tally-stop f s (tally-start f s) q)
+
+pub fault-respelled : {f : Form} {s : List ℕ} {r n p d : ℕ} (at : ReadingFault f s r n p d)
+    → respelledBefore f s ≡ respelledBefore f (at .front)
+fault-respelled {f} {s} {r} at =
+    let q = outcomes.accepts (reads f) (at .front) (at .elements) .1 (at .run) in
+    let none = head-respelled f (at .rest) (refuses-exactly-by f (at .rest) r (at .behind) .1 (at .here)) in
+    let both = ap (respelledBefore f) (at .whole) ∙ tally-joined (isCanonical f) (reads f) (at .front) (at .rest) (at .elements) q in
+    omega (arith, both, none)
+
+-- ---- what was read, its numbers: no more elements and words than octets, and no more that were not canonical than elements; a refusal is
+-- one of 1 to 8, and decided behind its first octet
 
 pub record Modest (m : Measured) (size : ℕ) : Type 0 where
   pub number : m .answer .number ≤ 8
@@ -74,6 +98,7 @@ pub record Modest (m : Measured) (size : ℕ) : Type 0 where
   pub place : m .answer .place ≤ size
   pub onward : 0 < m .answer .number → m .answer .place ≤ m .answer .count
   pub inside : m .answer .count ≤ size
+  pub respelled : m .respelled ≤ m .answer .element
 
 pub modest : (f : Form) (s : List ℕ) → Modest (measured f s) (length s)
 modest f s = go (readIn f s) refl
@@ -89,6 +114,7 @@ modest f s = go (readIn f s) refl
           place = omega arith;
           onward = λ z. absurd (omega arith);
           inside = r .1;
+          respelled = tally-few (isCanonical f) (reads f) s fs q;
         })
     go (refusal r n p d) q =
         let z = refused-read f s r n p d q in
@@ -96,6 +122,8 @@ modest f s = go (readIn f s) refl
         let w = run-small (z .fault .run) in
         let l : length s ≡ length (z .fault .front) + length (z .fault .rest) =
         ap length (z .fault .whole) ∙ length-append (z .fault .front) (z .fault .rest) in
+        let few = tally-few (isCanonical f) (reads f) (z .fault .front) (z .fault .elements)
+        (outcomes.accepts (reads f) (z .fault .front) (z .fault .elements) .1 (z .fault .run)) in
         subst (λ (m : Measured). Modest m (length s)) (sym (refused-measured f s q z))
         (record {
           number = k .number;
@@ -104,4 +132,5 @@ modest f s = go (readIn f s) refl
           place = omega (arith, k .onward, k .inside);
           onward = λ z. k .onward;
           inside = k .inside;
+          respelled = omega (arith, fault-respelled (z .fault), few, z .fault .element-number);
         })

@@ -4,7 +4,7 @@ use Prim.Native.Nat.{ℕ, suc, _+_, _-_, _≤_, _<_}
 use mathlib.Core.Path.{_≡_, refl, sym, ap, ap₂, _∙_, subst}
 use mathlib.Core.Logic.{_↔_, _⊎_, inl, inr, ⊎-elim}
 use mathlib.Core.Bool.{Bool, true, false}
-use mathlib.Core.List.{List, [], _∷_, _++_, append-nil}
+use mathlib.Core.List.{List, [], _∷_, _++_, append-assoc, append-nil}
 use native.Mathlib.Omega.{arith}
 use native.Mathlib.Nat.{add-comm, zero-add}
 use lib.Dec.{eqb, leb}
@@ -13,6 +13,7 @@ use lib.Seq.{take-append-seam, drop-append-seam, take-append-le, drop-append-add
 use types.Run.{OneOf}
 use denote.Enum.Declared.{tagOf}
 use borrow.Author.Tests.{leb-true, leb-false, eqb-true, ne-eqb}
+use Rattle.run.specs.Choice.{pick}
 use Rattle.run.specs.Head.{Head, element, refused, none, Outcome, accepted, refusal, join}
 use Rattle.run.specs.Grammar.{Run, RunOf, done, more}
 use Rattle.run.specs.declared.Answer.{Answer}
@@ -21,27 +22,30 @@ use Rattle.run.specs.Put.{Put, whatFits}
 use Rattle.run.proofs.Outcomes as outcomes
 use Rattle.run.proofs.Before.{given-before}
 use Rattle.run.proofs.Puts.{all-fit, none-fits, put-before}
+use Rattle.run.proofs.Tallies.{tally-joined}
 use Rattle.sorts.specs.declared.Form.{Form}
 use Rattle.element_words.specs.declared.Element.{Element}
 use Rattle.element_words.specs.Words.{wordsOf}
+use Rattle.element_spelling.specs.ElementOctets.{isCanonical}
 use Rattle.element_reading.specs.Grammar.{Spells, Refuses, Cut-short}
 use Rattle.element_reading.specs.declared.Step.{Step}
 use Rattle.element_reading.specs.declared.Step.the-variants.{Element as Read}
-use Rattle.element_reading.specs.ElementHead.{headIn, stepAt}
+use Rattle.element_reading.specs.ElementHead.{headIn, canonicalHead, stepAt}
 use Rattle.element_reading.proofs.Step.{the-type}
 use Rattle.element_reading.proofs.Places.{reading-number}
 use Rattle.element_reading.proofs.Sizes.{words-few}
 use Rattle.element_reading.proofs.Reader.{reads, refuses-exactly-by}
 use Rattle.element_reading.proofs.Deciding.{forty, unfinished, cut-exactly}
 use Rattle.text_loops.specs.declared.Measured.{Measured}
-use Rattle.text_loops.specs.Fronts.{readIn, measured, wordsBefore, askedFor, stepAnswerAfter}
-use Rattle.text_loops.proofs.Steps.{here, step-refused, count-is-place}
+use Rattle.text_loops.specs.Fronts.{readIn, measured, wordsBefore, respelledBefore, askedFor, stepAnswerAfter}
+use Rattle.text_loops.proofs.Tallied.{told-here, told-reads, tally-start, tally-turn, tally-end}
+use Rattle.text_loops.proofs.Steps.{step-refused, count-is-place}
 use Rattle.text_loops.specs.Promises.{ReadFrontPromise}
 use Rattle.open_elements.specs.OpenElements.{openHead, isOpen}
 use Rattle.open_elements.specs.Steps.{Gathered, behindOne, FrontOf}
 use Rattle.open_elements.specs.Promises.{ReadOnPromise}
 use Rattle.open_elements.proofs.Faults.{fault-small}
-use Rattle.open_elements.proofs.Fronts.{accepted-measured, fault-words, refused-read, refused-measured}
+use Rattle.open_elements.proofs.Fronts.{accepted-measured, fault-words, refused-read, refused-measured, head-respelled}
 
 -- ---- an element that was open ends behind the octets that waited
 
@@ -76,6 +80,10 @@ module _ (f : Form) (held piece : List ℕ) (open′ : headIn f held ≡ refused
 pub head-words : (f : Form) (s : List ℕ) {e : Element} {k : ℕ} → headIn f s ≡ element e k → length (wordsOf e) ≤ k
 head-words f s {e} {k} q = let b = reads f .found s e k q in omega (arith, words-few (b .spells), b .size)
 
+-- one element is a run
+one-run : {f : Form} {p : List ℕ} {e : Element} → Spells f p e → RunOf (Spells f) p (e ∷ [])
+one-run {f} {p} {e} sp = (p ∷ [], subst (λ (l : List ℕ). Run (Spells f) l (p ∷ []) (e ∷ [])) (append-nil p) (more sp done))
+
 module _ (f : Form) (s : List ℕ) {e : Element} {k : ℕ} (here : headIn f s ≡ element e k) where
   abbrev rest : List ℕ
   rest = drop k s
@@ -94,10 +102,7 @@ module _ (f : Form) (s : List ℕ) {e : Element} {k : ℕ} (here : headIn f s �
       record {
         front = b .front;
         whole = b .whole ∙ ap (λ (l : List ℕ). b .front ++ l) (sym left);
-        run = (
-          (b .front) ∷ [],
-          subst (λ (l : List ℕ). Run (Spells f) l (b .front ∷ []) (e ∷ [])) (append-nil (b .front)) (more (b .spells) done),
-        );
+        run = one-run (b .spells);
         size = b .size;
       }
 
@@ -135,13 +140,13 @@ module _ (f : Form) (s : List ℕ) {e : Element} {k : ℕ} (here : headIn f s �
   behind-count = ap length behind-words ∙ length-append (wordsOf e) (wordsBefore f rest)
 
   abbrev moved : Measured → Measured
-  moved m = record { answer = behindOne (m .answer) k count; words = count }
+  moved m = record { answer = behindOne (m .answer) k count; words = count; respelled = respelledBefore f s }
 
-  pub behind-measured : measured f s ≡ record { answer = behindOne (measured f rest .answer) k count; words = count }
+  pub behind-measured : measured f s
+      ≡ record { answer = behindOne (measured f rest .answer) k count; words = count; respelled = respelledBefore f s }
   behind-measured = go (readIn f rest) refl
     where
-      go : (x : Outcome Element) → readIn f rest ≡ x
-          → measured f s ≡ record { answer = behindOne (measured f rest .answer) k count; words = count }
+      go : (x : Outcome Element) → readIn f rest ≡ x → measured f s ≡ moved (measured f rest)
       go (accepted fs) q =
           let q′ : readIn f s ≡ accepted (e ∷ fs) = onward ∙ ap (join (e ∷ []) k) q in
           let m = accepted-measured f s (e ∷ fs) q′ in
@@ -150,9 +155,11 @@ module _ (f : Form) (s : List ℕ) {e : Element} {k : ℕ} (here : headIn f s �
           record {
             answer = answer 0 (suc (length fs)) (length s) (length (given wordsOf (e ∷ fs)));
             words = length (given wordsOf (e ∷ fs));
+            respelled = respelledBefore f s;
           } in
           let one : suc (length fs) ≡ length fs + 1 = omega arith in
-          let same : now ≡ record { answer = answer 0 (length fs + 1) (length rest + k) count; words = count } =
+          let same : now
+          ≡ record { answer = answer 0 (length fs + 1) (length rest + k) count; words = count; respelled = respelledBefore f s } =
           simp (l, behind-size, one) in
           m .0 ∙ same ∙ sym (ap moved (accepted-measured f rest fs q .0))
       go (refusal r n p d) q =
@@ -162,10 +169,38 @@ module _ (f : Form) (s : List ℕ) {e : Element} {k : ℕ} (here : headIn f s �
           let l : length (given wordsOf (z′ .fault .elements)) ≡ count = ap length (sym (z′ .words)) ∙ behind-count in
           let some : eqb r 0 ≡ false = ne-eqb r 0 (λ i. omega (arith, i, fault-small (z .fault) .some)) in
           let n1 : 1 + n ≡ n + 1 = omega arith in
-          let now : Measured = record { answer = answer r (1 + n) (k + p) (k + d); words = length (given wordsOf (z′ .fault .elements)) } in
-          let same : now ≡ moved (record { answer = answer r n p d; words = length (given wordsOf (z .fault .elements)) }) =
-          simp (l, some, n1, add-comm k p, add-comm k d) in
+          let now : Measured =
+          record {
+            answer = answer r (1 + n) (k + p) (k + d);
+            words = length (given wordsOf (z′ .fault .elements));
+            respelled = respelledBefore f s;
+          } in
+          let left : Measured =
+          record { answer = answer r n p d; words = length (given wordsOf (z .fault .elements)); respelled = respelledBefore f rest } in
+          let same : now ≡ moved left = simp (l, some, n1, add-comm k p, add-comm k d) in
           refused-measured f s q′ z′ ∙ same ∙ sym (ap moved (refused-measured f rest q z))
+
+-- an element that is told stands there: what it is told is forgotten
+pub told-stands : (f : Form) (s : List ℕ) {e : Element} {b : Bool} {k : ℕ} → canonicalHead f s ≡ element (e, b) k
+    → headIn f s ≡ element e k
+told-stands f s {e} {b} {k} told =
+    let t = told-reads f .found s (e, b) k told in
+    ap (headIn f) (t .whole) ∙ reads f .finds (t .front) (t .rest) e (t .spells .0) ∙ ap (element e) (sym (t .size))
+
+-- how many elements were not canonical: it adds up behind an element that is told
+pub behind-respelled : (f : Form) (s : List ℕ) {e : Element} {b : Bool} {k : ℕ} → canonicalHead f s ≡ element (e, b) k
+    → respelledBefore f s ≡ pick b 0 1 + respelledBefore f (drop k s)
+behind-respelled f s {e} {b} {k} told =
+    let t = told-reads f .found s (e, b) k told in
+    let p = t .front in
+    let left : drop k s ≡ t .rest = ap₂ drop (t .size) (t .whole) ∙ drop-append-seam p (t .rest) in
+    let alone : canonicalHead f p ≡ element (e, b) (length p) =
+    ap (canonicalHead f) (sym (append-nil p)) ∙ told-reads f .finds p [] (e, b) (t .spells) in
+    let one = tally-turn f p (tally-start f p) (record { size = length p; here = alone; onward = sym (zero-add (length p)) }) refl in
+    let q = outcomes.accepts (reads f) p (e ∷ []) .1 (one-run (t .spells .0)) in
+    ap (respelledBefore f) (t .whole)
+    ∙ tally-joined (isCanonical f) (reads f) p (t .rest) (e ∷ []) q
+    ∙ ap₂ _+_ (sym (tally-end f p one (omega arith)) ∙ zero-add (pick b 0 1)) (ap (respelledBefore f) (sym left))
 
 given-none : given wordsOf [] ≡ []
 unfolding given
@@ -173,13 +208,14 @@ given-none = refl
 
 -- a refusal at the head: nothing is read
 pub refused-head : (f : Form) (s : List ℕ) {r d : ℕ} → headIn f s ≡ refused r d
-    → (measured f s ≡ record { answer = answer r 0 0 d; words = 0 }) × (wordsBefore f s ≡ [])
+    → (measured f s ≡ record { answer = answer r 0 0 d; words = 0; respelled = 0 }) × (wordsBefore f s ≡ [])
 refused-head f s {r} {d} here =
     let q = outcomes.outcome-stop (reads f) s r d here in
     let z = refused-read f s r 0 0 d q in
     let none : z .fault .elements ≡ [] = empty (z .fault .elements) (z .fault .element-number) in
     let w : given wordsOf (z .fault .elements) ≡ [] = ap (given wordsOf) none ∙ given-none in
-    (refused-measured f s q z ∙ simp w, z .words ∙ w)
+    let none-told = head-respelled f s here in
+    (refused-measured f s q z ∙ simp (w, none-told), z .words ∙ w)
   where
     empty : (es : List Element) → 0 ≡ length es → es ≡ []
     empty [] n = refl
@@ -191,26 +227,28 @@ asked-all : (x : Outcome Element) (ws : List ℕ) → askedFor false x ws ≡ ws
 asked-all (accepted es) ws = refl
 asked-all (refusal r n p d) ws = refl
 
-module _ (f : Form) (s : List ℕ) {e : Element} {k : ℕ} (here : headIn f s ≡ element e k) (words : List ℕ) (w : ℕ) (m : Measured)
-    (after : List ℕ) {a : Answer} (size : w ≡ length (wordsOf e)) (is : m ≡ measured f (drop k s))
+module _ (f : Form) (s : List ℕ) {e : Element} {b : Bool} {k : ℕ} (told : canonicalHead f s ≡ element (e, b) k) (words : List ℕ) (w : ℕ)
+    (m : Measured) (after : List ℕ) {a : Answer} {one : ℕ} (size : w ≡ length (wordsOf e)) (adds : one ≡ pick b 0 1)
+    (is : m ≡ measured f (drop k s))
     (put : after ≡ sets words w (whatFits words w (askedFor false (readIn f (drop k s)) (wordsBefore f (drop k s)))))
     (moves : a ≡ behindOne (m .answer) k (w + m .words)) where
   abbrev behind : List ℕ
   behind = wordsBefore f (drop k s)
 
   abbrev both : Measured
-  both = record { answer = a; words = w + m .words }
+  both = record { answer = a; words = w + m .words; respelled = one + m .respelled }
 
   measured-both : both ≡ measured f s
   measured-both =
-      let here′ = behind-measured f s here in
-      simp (moves, size, is) (sym here′)
+      let here′ = behind-measured f s (told-stands f s told) in
+      let told′ = behind-respelled f s told in
+      simp (moves, size, adds, is, sym told′) (sym here′)
 
   put-behind : after ≡ sets words w (whatFits words w behind)
   put-behind = put ∙ ap (λ (l : List ℕ). sets words w (whatFits words w l)) (asked-all (readIn f (drop k s)) behind)
 
   words-both : wordsBefore f s ≡ wordsOf e ++ behind
-  words-both = behind-words f s here
+  words-both = behind-words f s (told-stands f s told)
 
   size-both : length (wordsBefore f s) ≡ w + m .words
   size-both =
@@ -246,10 +284,10 @@ module _ (f : Form) (s : List ℕ) {e : Element} {k : ℕ} (here : headIn f s �
 
 -- a refusal at the head
 pub front-refused : (f : Form) (s : List ℕ) {r d : ℕ} → headIn f s ≡ refused r d → (words : List ℕ) {a : Answer} → a ≡ answer r 0 0 d
-    → FrontOf f s words (record { answer = a; words = 0 }) words
+    → FrontOf f s words (record { answer = a; words = 0; respelled = 0 }) words
 front-refused f s here words e =
     let h = refused-head f s here in (
-      ap (λ (x : Answer). record { answer = x; words = 0 }) e ∙ sym (h .0),
+      ap (λ (x : Answer). record { answer = x; words = 0; respelled = 0 }) e ∙ sym (h .0),
       sym (ap (λ (l : List ℕ). sets words 0 (whatFits words 0 l)) (h .1) ∙ ap (sets words 0) (all-fit words 0 [] (omega arith))),
     )
 
@@ -263,17 +301,24 @@ first-octets {s} {zeros} l g =
     ∙ take-append-seam (take (length zeros) s) (drop (length (take (length zeros) s)) zeros)
     ∙ ap (λ (n : ℕ). take n s) l
 
--- an element there stands at the head of all
-pub first-here : (f : Form) (s window : List ℕ) → window ≡ take 40 s → (e : Element) (next : ℕ) → stepAt f window 0 ≡ Read e next
-    → headIn f s ≡ element e next
-first-here f s window w e next q =
-    let h = here f window 0 e next q in
-    forty f s ∙ ap (headIn f) (sym w) ∙ h .here ∙ ap (element e) (let z : h .size ≡ next = omega (arith, h .onward) in z)
+-- an element there stands at the head of all, and is told there as among them
+pub first-told : (f : Form) (s window : List ℕ) → window ≡ take 40 s → (e : Element) (next : ℕ) (b : Bool)
+    → stepAt f window 0 ≡ Read e next b → canonicalHead f s ≡ element (e, b) next
+first-told f s window w e next b q =
+    let h = told-here f window 0 e next b q in
+    let t = told-reads f .found window (e, b) (h .size) (h .here) in
+    let whole : s ≡ t .front ++ (t .rest ++ drop 40 s) =
+    sym (take-append-drop 40 s)
+    ∙ ap (λ (l : List ℕ). l ++ drop 40 s) (sym w ∙ t .whole)
+    ∙ append-assoc (t .front) (t .rest) (drop 40 s) in
+    ap (canonicalHead f) whole
+    ∙ told-reads f .finds (t .front) (t .rest ++ drop 40 s) (e, b) (t .spells)
+    ∙ ap (element (e, b)) (let z : length (t .front) ≡ next = omega (arith, h .onward, t .size) in z)
 
 -- and so does a refusal
 pub first-refused : (f : Form) (s window words : List ℕ) → window ≡ take 40 s → 0 < length window → (x : Step) → x ≡ stepAt f window 0
     → OneOf (1 ∷ 2 ∷ []) (tagOf the-type x) → {a : Answer} → a ≡ stepAnswerAfter 0 x
-    → FrontOf f s words (record { answer = a; words = 0 }) words
+    → FrontOf f s words (record { answer = a; words = 0; respelled = 0 }) words
 first-refused f s window words w some x q o {a} e =
     let h = step-refused f window 0 x q o some in
     let head : headIn f s ≡ refused (h .number) (h .behind) = forty f s ∙ ap (headIn f) (sym w) ∙ h .here in
@@ -330,8 +375,8 @@ open-on f waiting piece words t p = (p .0 ∙ simp t, p .1 ∙ simp t)
 
 -- what waits is none
 pub on-none : (f : Form) (waiting piece words : List ℕ) {a : Answer} → isOpen f waiting ≡ false → a ≡ bare 11
-    → ReadOnPromise f waiting piece words (record { answer = a; words = 0 }) words
-on-none f waiting piece words t e = (ap (λ (x : Answer). record { answer = x; words = 0 }) e ∙ sym (simp t), sym (simp t))
+    → ReadOnPromise f waiting piece words (record { answer = a; words = 0; respelled = 0 }) words
+on-none f waiting piece words t e = (ap (λ (x : Answer). record { answer = x; words = 0; respelled = 0 }) e ∙ sym (simp t), sym (simp t))
 
 -- what was gathered stands in the array
 pub gathered-size : {s : List ℕ} {from : ℕ} {into : List ℕ} {size : ℕ} {after : List ℕ}

@@ -27,7 +27,7 @@ isOpen f s = openHead (headIn f s)
 
 -- what waits is no open element
 abbrev pub notOpen : Measured
-notOpen = record { answer = bare 11; words = 0 }
+notOpen = record { answer = bare 11; words = 0; respelled = 0 }
 
 -- those that wait and the piece, read as one text up to its end or its first fault
 abbrev pub readOn : Form → List ℕ → List ℕ → Measured

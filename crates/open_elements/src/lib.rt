@@ -21,7 +21,7 @@ pub fn is_open(form: Form, waiting: &[u8]) -> bool
     }
     let step = element_reading::element_at(form, waiting, 0);
     match step {
-        Step::Element(_, _) => false,
+        Step::Element(_, _, _) => false,
         Step::Refused {
             number,
             place: _,
@@ -84,10 +84,11 @@ fn read_open(form: Form, waiting: &[u8], piece: &[u8], words: &mut [u32]) -> Mea
     let mut first = [0; 40];
     let size = gather(waiting, piece, 0, &mut first);
     let step = element_reading::element_at(form, &first[..size], 0);
-    let Step::Element(e, next) = step else {
+    let Step::Element(e, next, canonical) = step else {
         return Measured {
             answer: text_loops::step_answer(step, 0),
             words: 0,
+            respelled: 0,
         };
     };
     let at = next - waiting.len();
@@ -96,16 +97,19 @@ fn read_open(form: Form, waiting: &[u8], piece: &[u8], words: &mut [u32]) -> Mea
     let a = rest.answer;
     let count = w + rest.words;
     let answer = behind_one(a, next, count);
+    let respelled = canonical_tests::not_canonical(canonical) + rest.respelled;
     if words.len() < count {
         return Measured {
             answer,
             words: count,
+            respelled,
         };
     }
     element_words::put_words(e, words, 0);
     Measured {
         answer,
         words: count,
+        respelled,
     }
 }
 
@@ -123,5 +127,6 @@ pub fn read_on(form: Form, waiting: &[u8], piece: &[u8], words: &mut [u32]) -> M
     Measured {
         answer: run::bare_answer(11),
         words: 0,
+        respelled: 0,
     }
 }

@@ -8,10 +8,12 @@ use native.Mathlib.Omega.{arith}
 use lib.Dec.{leb}
 use lib.ListN.{length, drop, getD, length-append, length-drop}
 use lib.Seq.{getD-append-add, getD-drop}
-use borrow.Author.Tests.{leb-true}
+use borrow.Author.Tests.{leb-true, eq-eqb, ne-eqb}
 use Rattle.run.specs.Choice.{pick}
 use Rattle.run.specs.Head.{Outcome, accepted, refusal}
-use Rattle.run.specs.Answers.{answer, given, answerOf, writtenOf, over}
+use Rattle.run.specs.declared.Answer.{Answer}
+use Rattle.run.specs.declared.ReadAnswer.{ReadAnswer}
+use Rattle.run.specs.Answers.{answer, given, answerOf, writtenOf, over, carrying}
 
 -- what joined lists of elements give is what each gives, joined
 pub given-append : {A : Type 0} (gives : A → List ℕ) (es fs : List A) → given gives (es ++ fs) ≡ given gives es ++ given gives fs
@@ -79,3 +81,11 @@ module _ {A : Type 0} (gives : A → List ℕ) (n : ℕ) (l : List ℕ) where
   pub past-count : (x : Outcome A) (k d : ℕ) → answerOf gives n (length l) x .count ≤ k → getD (writtenOf gives l x) k d ≡ getD l k d
   past-count (accepted es) k d h = past-by (given gives es) (leb (length (given gives es)) (length l)) (length es) k d h
   past-count (refusal r e p i) k d h = refl
+
+-- ---- the fifth number
+
+pub carrying-none : (a : Answer) (k : ℕ) → (a .number ≡ 0 → ⊥) → _≡_ {A = ReadAnswer} (record { answer = a; respelled = 0 }) (carrying a k)
+carrying-none a k h = rw (ne-eqb (a .number) 0 h)
+
+pub carrying-it : (a : Answer) (k : ℕ) → a .number ≡ 0 → _≡_ {A = ReadAnswer} (record { answer = a; respelled = k }) (carrying a k)
+carrying-it a k h = rw (eq-eqb (a .number) 0 h)

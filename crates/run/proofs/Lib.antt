@@ -14,3 +14,4 @@ pub mod Spellers
 pub mod SpeltLoops
 pub mod Tags
 pub mod Before
+pub mod Tallies

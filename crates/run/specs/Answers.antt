@@ -3,11 +3,12 @@
 -- Assumes nothing.
 use Prim.Native.Nat.{ℕ, _≤_}
 use mathlib.Core.List.{List, [], _∷_, _++_}
-use lib.Dec.{leb}
+use lib.Dec.{eqb, leb}
 use lib.ListN.{length, drop}
 use Rattle.run.specs.Choice.{pick}
 use Rattle.run.specs.Head.{Outcome, accepted, refusal}
 use Rattle.run.specs.declared.Answer.{Answer}
+use Rattle.run.specs.declared.ReadAnswer.{ReadAnswer}
 
 -- ---- to be believed: the tables of document 01 are stated with these
 
@@ -22,6 +23,11 @@ bare r = answer r 0 0 0
 -- "lent room is short": 9, with the room needed
 abbrev pub shortRoom : ℕ → Answer
 shortRoom needed = answer 9 0 0 needed
+
+-- an answer with the fifth number of document 02, No. 5: "An accepted reading .. or conversion .. carries a fifth number", which "is 0 on
+-- a refusal"
+abbrev pub carrying : Answer → ℕ → ReadAnswer
+carrying a k = record { answer = a; respelled = pick (eqb (a .number) 0) k 0 }
 
 -- "In 1 to 8 the count is an octet place too and moves up with it"; of any other refusal of an element (10) it is 0
 abbrev pub countOf : ℕ → ℕ → ℕ

@@ -19,6 +19,13 @@ abbrev pub oneOf : List ℕ → ℕ → Bool
 oneOf [] n = false
 oneOf (k ∷ ks) n = let more = oneOf ks n in pick (eqb k n) true more
 
+-- the same entries, such as octets
+abbrev pub sameOctets : List ℕ → List ℕ → Bool
+sameOctets [] [] = true
+sameOctets [] (o ∷ t) = false
+sameOctets (o ∷ s) [] = false
+sameOctets (o ∷ s) (u ∷ t) = let more = sameOctets s t in pick (eqb o u) more false
+
 -- what the first of a list's entries that has the key k gives
 abbrev pub firstBy : {A B : Type 0} → (A → ℕ) → (A → B) → B → List A → ℕ → B
 firstBy key gives missing [] k = missing

@@ -9,3 +9,4 @@ pub mod Loops
 pub mod Speller
 pub mod Tagged
 pub mod Before
+pub mod Tally

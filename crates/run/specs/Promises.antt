@@ -5,7 +5,8 @@ use Prim.Native.Nat.{ℕ}
 use mathlib.Core.Path.{_≡_}
 use mathlib.Core.List.{List, [], _∷_}
 use Rattle.run.specs.declared.Answer.{Answer}
-use Rattle.run.specs.Answers.{bare, shortRoom}
+use Rattle.run.specs.declared.ReadAnswer.{ReadAnswer}
+use Rattle.run.specs.Answers.{bare, shortRoom, carrying}
 use Rattle.run.specs.Put.{Put, whatFits}
 
 -- a refusal that carries no place
@@ -15,6 +16,10 @@ BareAnswerPromise number r = r ≡ bare number
 -- 9: "lent room is short", with the room needed
 abbrev pub ShortRoomPromise : ℕ → Answer → Type 0
 ShortRoomPromise needed r = r ≡ shortRoom needed
+
+-- an answer with its fifth number, which is 0 on a refusal
+abbrev pub ReadingOfPromise : Answer → ℕ → ReadAnswer → Type 0
+ReadingOfPromise answer respelled r = r ≡ carrying answer respelled
 
 -- one octet where there is room for it, and the place behind what was written
 abbrev pub PutPromise : List ℕ → ℕ → ℕ → ℕ → List ℕ → Type 0

@@ -1,5 +1,5 @@
 // The four numbers that every answer carries (document 01, "The numbers an answer carries"), and writing an octet.
-ghost use Rattle.run.specs.Promises.{BareAnswerPromise, ShortRoomPromise, PutPromise};
+ghost use Rattle.run.specs.Promises.{BareAnswerPromise, ShortRoomPromise, ReadingOfPromise, PutPromise};
 
 #[repr(C)]
 pub struct Answer {
@@ -11,6 +11,14 @@ pub struct Answer {
     pub place: usize,
     // accepted: entries written; 1 to 8: the deciding octet's place; 9: the room needed
     pub count: usize,
+}
+
+// The four numbers of a reading or a conversion, and the fifth (document 02, No. 5).
+#[repr(C)]
+pub struct ReadAnswer {
+    pub answer: Answer,
+    // accepted: how many elements did not stand in their canonical spelling; refused: 0
+    pub respelled: usize,
 }
 
 // A refusal that carries no place.
@@ -35,6 +43,19 @@ pub fn short_room(needed: usize) -> Answer
         place: 0,
         count: needed,
     }
+}
+
+// An answer with its fifth number. 02: it "is 0 on a refusal".
+pub fn reading_of(answer: Answer, respelled: usize) -> ReadAnswer
+    ensures { λ r. ⌜ ReadingOfPromise answer respelled r ⌝ }
+{
+    if answer.number != 0 {
+        return ReadAnswer {
+            answer,
+            respelled: 0,
+        };
+    }
+    ReadAnswer { answer, respelled }
 }
 
 // Writes one octet where there is room for it; the place behind what was written.

@@ -22,7 +22,7 @@ middle-fine : {i : List ℕ} {m : ℕ} → Intermediate i m → (m ≡ 0) ⊎ ((
 middle-fine none = inl refl
 middle-fine (one {b} {i} e) = inr (middle-says b i e)
 
-spelt-fine : {p : List ℕ} {q : Sequence} → SpellsSequence p q → Fine q
+pub spelt-fine : {p : List ℕ} {q : Sequence} → SpellsSequence p q → Fine q
 spelt-fine (sequence {s} {vs} {m} {f} b h e) =
     record {
       middle = middle-fine (h .at-most-one);

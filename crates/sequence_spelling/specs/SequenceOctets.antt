@@ -1,5 +1,5 @@
 -- To be believed, as a relation in document 01's words: the canonical spelling of a control sequence. Proved equal to that, the definition
--- that gives it (Exactly: canonical-exactly, fine-test).
+-- that gives it (Exactly: canonical-exactly, fine-test), and the test of octets that spell a sequence (ZeroFree: zero-free).
 -- Assumes nothing.
 use Prim.Native.Nat.{ℕ, _+_, _*_, _/_, _%_, _≤_, _<_}
 use mathlib.Core.Path.{_≡_}
@@ -97,3 +97,10 @@ sizeOf q = pick (isFine q) (length (spellSequence q)) 0
 -- what is written at a place of a buffer: the spelling, where the sequence can be one and there is room; else nothing
 unfoldable pub putSequence : List ℕ → ℕ → Sequence → List ℕ
 putSequence out at q = pick (isFine q) (whatFits out at (spellSequence q)) []
+
+-- ---- the test of a canonical spelling, of octets that spell a sequence
+
+-- no value begins with the digit 0: "Values have no leading zeros, 0 is the empty sub-string"; `begins`: a value begins here
+abbrev pub zeroFree : Bool → List ℕ → Bool
+zeroFree begins [] = true
+zeroFree begins (b ∷ s) = let more = zeroFree (eqb b 0x3B) s in pick (pick begins (eqb b 0x30) false) false more

@@ -13,7 +13,7 @@ use Rattle.sorts.specs.Forms.{formOf}
 use Rattle.text_reading.specs.ReadingNumbers.{limit}
 use Rattle.serial.specs.declared.Carry.{Carry}
 use Rattle.serial.specs.declared.Fed.{Fed}
-use Rattle.serial.specs.Feeding.{couldGo, couldStop, keptBy, stoppedBy, fedIn, wordsIn, feedAnswer, feedWords}
+use Rattle.serial.specs.Feeding.{couldGo, couldStop, keptBy, repeatedBy, stoppedBy, fedIn, wordsIn, feedAnswer, feedWords}
 use Rattle.serial.specs.Promises.{FeedPromise}
 
 module _ (c : Carry) (piece : List ℕ) (ended : Bool) (words : List ℕ) where
@@ -25,7 +25,7 @@ module _ (c : Carry) (piece : List ℕ) (ended : Bool) (words : List ℕ) where
   module _ {f : Form} (is : formOf (c .form) ≡ Is f) where
     -- the page ended or was refused
     module _ (over : c .stopped ≡ 0 → ⊥) where
-      pub edge-repeats : {r : Fed} → r ≡ keptBy c (c .answer) → couldStop c ≡ true → FeedPromise c piece ended words r words
+      pub edge-repeats : {r : Fed} → r ≡ repeatedBy c → couldStop c ≡ true → FeedPromise c piece ended words r words
       unfolding feedAnswer feedWords
       edge-repeats e could = let t = ne-eqb (c .stopped) 0 over in (e ∙ sym (simp (is, t, could)), sym (simp (is, t, could)))
 
@@ -40,7 +40,7 @@ module _ (c : Carry) (piece : List ℕ) (ended : Bool) (words : List ℕ) where
       edge-nobodys e could = (e ∙ sym (simp (is, on, could)), sym (simp (is, on, could)))
 
       module _ (could : couldGo f c ≡ true) where
-        pub edge-past : {r : Fed} → r ≡ stoppedBy (c .form) (bare 12) 0 → limit < c .answer .place + length piece
+        pub edge-past : {r : Fed} → r ≡ stoppedBy (c .form) (bare 12) 0 0 → limit < c .answer .place + length piece
             → FeedPromise c piece ended words r words
         unfolding feedAnswer feedWords
         edge-past e beyond =

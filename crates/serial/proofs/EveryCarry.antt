@@ -1,5 +1,5 @@
--- Of every carry: only entries past the words handed out stay, and on 9, 11 and 12 all of them; when room is enough; and a call answered 9
--- leaves the carry as it was, and may be left out.
+-- Of every carry: only entries past the words handed out stay, and on 9, 11 and 12 all of them; the fifth number is no more than the
+-- elements, and 0 on a refusal; when room is enough; and a call answered 9 leaves the carry as it was, and may be left out.
 -- Assumes nothing.
 use Prim.Native.Nat.{ℕ, _+_, _≤_, _<_}
 use mathlib.Core.Path.{_≡_, refl, sym, ap, _∙_, subst, subst₂}
@@ -9,7 +9,7 @@ use native.Mathlib.Omega.{arith}
 use lib.Dec.{eqb, leb}
 use lib.ListN.{length, take, drop, length-append, length-take}
 use lib.Seq.{take-append-seam}
-use borrow.Author.Tests.{leb-false}
+use borrow.Author.Tests.{leb-true, leb-false, eqb-true}
 use Rattle.run.specs.Choice.{pick}
 use Rattle.run.specs.declared.Answer.{Answer}
 use Rattle.run.specs.Answers.{bare, shortRoom, over}
@@ -17,6 +17,7 @@ use Rattle.sorts.specs.declared.Form.{Form}
 use Rattle.sorts.specs.declared.FormFound.{FormFound}
 use Rattle.sorts.specs.declared.FormFound.the-variants.{Is, Nothing}
 use Rattle.sorts.specs.Forms.{formOf, inForm}
+use Rattle.element_reading.specs.ElementNumbers.{reading}
 use Rattle.text_loops.specs.declared.Measured.{Measured}
 use Rattle.text_loops.specs.Fronts.{measured, wordsBefore}
 use Rattle.text_reading.specs.ReadingNumbers.{limit}
@@ -24,15 +25,21 @@ use Rattle.serial.specs.declared.Carry.{Carry}
 use Rattle.serial.specs.declared.Fed.{Fed}
 use Rattle.serial.specs.Feeding.{
   waiting,
+  CouldGo,
   couldGo,
   couldEnd,
+  couldCarry,
   couldStop,
+  unmoved,
   keptBy,
+  repeatedBy,
   stoppedBy,
-  goneOn,
   stopsPage,
   soFar,
-  faultAt,
+  respelledSoFar,
+  faultedBy,
+  endedBy,
+  waitsBy,
   fedIn,
   wordsIn,
   byCarry,
@@ -51,6 +58,21 @@ pub record Untouched (c : Carry) (words : List ℕ) (fed : Fed) (after : List �
   pub handed : fed .handed ≡ 0
   pub buffer : after ≡ words
 
+-- a fifth number that an answer can carry
+record Carries (a : Answer) (k : ℕ) : Type 0 where
+  pub at-most : k ≤ a .element
+  pub refused : (a .number ≡ 0 → ⊥) → k ≡ 0
+
+none-carried : (a : Answer) → Carries a 0
+none-carried a = record { at-most = omega arith; refused = λ n. refl }
+
+could-carry : (a : Answer) (k : ℕ) → couldCarry a k ≡ true → Carries a k
+could-carry a k could = by-number (eqb (a .number) 0) refl could
+  where
+    by-number : (t : Bool) → eqb (a .number) 0 ≡ t → pick t (leb k (a .element)) (eqb k 0) ≡ true → Carries a k
+    by-number true e q = record { at-most = leb-true _ _ q; refused = λ n. absurd (n (eqb-true _ 0 e)) }
+    by-number false e q = record { at-most = omega (arith, eqb-true k 0 q); refused = λ n. eqb-true k 0 q }
+
 module _ (c : Carry) (piece : List ℕ) (ended : Bool) (words : List ℕ) where
   -- what holds of every call's answer and buffer
   pub record Leaves (fed : Fed) (after : List ℕ) : Type 0 where
@@ -61,95 +83,119 @@ module _ (c : Carry) (piece : List ℕ) (ended : Bool) (words : List ℕ) where
     pub twelve : fed .answer .number ≡ 12 → (fed .handed ≡ 0) × (after ≡ words)
     -- an entry for each octet of the piece, and 39 more, are room enough
     pub enough : length piece + 39 ≤ length words → fed .answer .number ≡ 9 → ⊥
+    -- No. 5: the fifth number counts elements, and "is 0 on a refusal"
+    pub at-most : fed .respelled ≤ fed .answer .element
+    pub refused : (fed .answer .number ≡ 0 → ⊥) → fed .respelled ≡ 0
 
   -- the carry as it was
-  kept-leaves : (a : Answer) → (length piece + 39 ≤ length words → a .number ≡ 9 → ⊥) → Leaves (keptBy c a) words
-  kept-leaves a enough =
-      let same : Untouched c words (keptBy c a) words = record { carry = refl; handed = refl; buffer = refl } in
-      record { past = refl; nine = λ e. same; eleven = λ e. same; twelve = λ e. (refl, refl); enough = enough }
+  kept-leaves : (a : Answer) (k : ℕ) → Carries a k → (length piece + 39 ≤ length words → a .number ≡ 9 → ⊥)
+      → Leaves (unmoved c (reading a k)) words
+  kept-leaves a k carried enough =
+      let same : Untouched c words (unmoved c (reading a k)) words = record { carry = refl; handed = refl; buffer = refl } in
+      record {
+        past = refl;
+        nine = λ e. same;
+        eleven = λ e. same;
+        twelve = λ e. (refl, refl);
+        enough = enough;
+        at-most = carried .at-most;
+        refused = carried .refused;
+      }
 
   -- a page that ended is never answered 9
   not-nine : (a : Answer) → couldEnd a ≡ true → a .number ≡ 9 → ⊥
   not-nine a could e = let w : _≡_ {A = Bool} false true = rw e at could in let z : _≡_ {A = ℕ} 0 1 = cc in omega arith
 
   -- words handed out
-  handed-leaves : (fed : Fed) (ws : List ℕ) → fed .handed ≡ length ws → fed .answer .number ≤ 8 → Leaves fed (over words ws)
-  handed-leaves fed ws e small =
+  handed-leaves : (fed : Fed) (ws : List ℕ) → fed .handed ≡ length ws → fed .answer .number ≤ 8 → Carries (fed .answer) (fed .respelled)
+      → Leaves fed (over words ws)
+  handed-leaves fed ws e small carried =
       record {
         past = ap (over words) (sym (ap (λ (k : ℕ). take k (over words ws)) e ∙ take-append-seam ws (drop (length ws) words)));
         nine = λ n. absurd (omega (arith, n, small));
         eleven = λ n. absurd (omega (arith, n, small));
         twelve = λ n. absurd (omega (arith, n, small));
         enough = λ r n. omega (arith, n, small);
+        at-most = carried .at-most;
+        refused = carried .refused;
       }
 
+  -- the fifth number so far
+  read-carries : {m : Measured} {size : ℕ} → c .respelled ≤ c .answer .element → Modest m size
+      → Carries (soFar (c .answer) (length piece) m) (respelledSoFar c m)
+  read-carries few small = record { at-most = omega (arith, few, small .respelled); refused = λ n. absurd (n refl) }
+
   -- what was read, and fits
-  read-leaves : {m : Measured} (s ws : List ℕ) → Modest m (length s) → m .words ≡ length ws → (t u : Bool)
-      → Leaves
-      (pick t (stoppedBy (c .form) (faultAt (c .answer) (c .holds) (m .answer)) (m .words))
-      (pick u (stoppedBy (c .form) (soFar (c .answer) (length piece) m) (m .words))
-      (goneOn (c .form) (drop (m .answer .place) s) (soFar (c .answer) (length piece) m) (m .words))))
-      (over words ws)
-  read-leaves s ws small e true u = handed-leaves _ ws e (small .number)
-  read-leaves s ws small e false true = handed-leaves _ ws e (omega arith)
-  read-leaves s ws small e false false = handed-leaves _ ws e (omega arith)
+  read-leaves : {m : Measured} (s ws : List ℕ) → c .respelled ≤ c .answer .element → Modest m (length s) → m .words ≡ length ws
+      → (t u : Bool) → Leaves (pick t (faultedBy c m) (pick u (endedBy c (length piece) m) (waitsBy c (length piece) s m))) (over words ws)
+  read-leaves s ws few small e true u = handed-leaves _ ws e (small .number) (none-carried _)
+  read-leaves s ws few small e false true = handed-leaves _ ws e (omega arith) (read-carries few small)
+  read-leaves s ws few small e false false = handed-leaves _ ws e (omega arith) (read-carries few small)
 
   module _ (f : Form) where
     abbrev m : Measured
     m = measured f (waiting c ++ piece)
 
-    by-room : c .holds ≤ 39 → (t : Bool) → leb (m .words) (length words) ≡ t
+    by-room : CouldGo f c → (t : Bool) → leb (m .words) (length words) ≡ t
         → Leaves (fedIn f c piece ended (length words)) (wordsIn f c piece words)
-    by-room few true e =
+    by-room go true e =
         let ws : List ℕ = wordsBefore f (waiting c ++ piece) in
         subst₂ Leaves (sym (simp e)) (sym (simp e))
-        (read-leaves (waiting c ++ piece) ws (modest f (waiting c ++ piece)) refl (stopsPage (m .answer .number) ended) ended)
-    by-room few false e =
+        (read-leaves (waiting c ++ piece) ws (go .respelled) (modest f (waiting c ++ piece)) refl (stopsPage (m .answer .number) ended)
+        ended)
+    by-room go false e =
         let short : length words < m .words = leb-false _ _ e in
         let few-words = modest f (waiting c ++ piece) .words in
         let most : m .words ≤ 39 + length piece =
-        omega (arith, few-words, length-append (waiting c) piece, length-take (c .holds) (c .held), few) in
-        subst₂ Leaves (sym (simp e)) (sym (simp e)) (kept-leaves (shortRoom (m .words)) (λ r n. omega (arith, r, short, most)))
+        omega (arith, few-words, length-append (waiting c) piece, length-take (c .holds) (c .held), go .few) in
+        subst₂ Leaves (sym (simp e)) (sym (simp e))
+        (kept-leaves (shortRoom (m .words)) 0 (none-carried _) (λ r n. omega (arith, r, short, most)))
 
-    by-limit : c .holds ≤ 39 → (t : Bool)
-        → Leaves (pick t (fedIn f c piece ended (length words)) (stoppedBy (c .form) (bare 12) 0)) (pick t (wordsIn f c piece words) words)
-    by-limit few true = by-room few (leb (m .words) (length words)) refl
-    by-limit few false =
+    by-limit : CouldGo f c → (t : Bool)
+        → Leaves (pick t (fedIn f c piece ended (length words)) (stoppedBy (c .form) (bare 12) 0 0))
+        (pick t (wordsIn f c piece words) words)
+    by-limit go true = by-room go (leb (m .words) (length words)) refl
+    by-limit go false =
         record {
           past = refl;
           nine = λ e. absurd (omega (arith, e));
           eleven = λ e. absurd (omega (arith, e));
           twelve = λ e. (refl, refl);
           enough = λ r e. omega (arith, e);
+          at-most = omega arith;
+          refused = λ n. refl;
         }
 
     -- the answer that is repeated
-    ends-of : couldStop c ≡ true → couldEnd (c .answer) ≡ true
+    ends-of : couldStop c ≡ true → (couldCarry (c .answer) (c .respelled) ≡ true) × (couldEnd (c .answer) ≡ true)
     ends-of k =
         let e1 = and-true (eqb (c .stopped) 1) _ k in
-        let e2 = and-true (eqb (c .spare) 0) _ (e1 .1) in
-        and-true (eqb (c .holds) 0) (couldEnd (c .answer)) (e2 .1) .1
+        let e2 = and-true (eqb (c .holds) 0) _ (e1 .1) in
+        and-true (couldCarry (c .answer) (c .respelled)) (couldEnd (c .answer)) (e2 .1)
 
     nobodys : Leaves (keptBy c (bare 11)) words
-    nobodys = kept-leaves (bare 11) (λ r e. omega (arith, e))
+    nobodys = kept-leaves (bare 11) 0 (none-carried _) (λ r e. omega (arith, e))
 
     by-carry : (t g : Bool) → couldGo f c ≡ g → (u : Bool) → couldStop c ≡ u
         → Leaves
-        (pick t (pick g (unlessPast c piece (stoppedBy (c .form) (bare 12) 0) (fedIn f c piece ended (length words))) (keptBy c (bare 11)))
-        (pick u (keptBy c (c .answer)) (keptBy c (bare 11))))
+        (pick t
+        (pick g (unlessPast c piece (stoppedBy (c .form) (bare 12) 0 0) (fedIn f c piece ended (length words))) (keptBy c (bare 11)))
+        (pick u (repeatedBy c) (keptBy c (bare 11))))
         (pick t (pick g (unlessPast c piece words (wordsIn f c piece words)) words) (pick u words words))
-    by-carry true true e u k = by-limit (could-go-exactly f c .0 e .few) (leb (c .answer .place + length piece) limit)
+    by-carry true true e u k = by-limit (could-go-exactly f c .0 e) (leb (c .answer .place + length piece) limit)
     by-carry true false e u k = nobodys
-    by-carry false g e true k = kept-leaves (c .answer) (λ r n. not-nine (c .answer) (ends-of k) n)
+    by-carry false g e true k =
+        let could = ends-of k in
+        kept-leaves (c .answer) (c .respelled) (could-carry _ _ (could .0)) (λ r n. not-nine (c .answer) (could .1) n)
     by-carry false g e false k = nobodys
 
   by-form : (y : FormFound)
       → Leaves
-      (inForm y (keptBy c (bare 11)) (λ f. byCarry f c (keptBy c (bare 11)) (keptBy c (c .answer))
-      (unlessPast c piece (stoppedBy (c .form) (bare 12) 0) (fedIn f c piece ended (length words)))))
+      (inForm y (keptBy c (bare 11)) (λ f. byCarry f c (keptBy c (bare 11)) (repeatedBy c)
+      (unlessPast c piece (stoppedBy (c .form) (bare 12) 0 0) (fedIn f c piece ended (length words)))))
       (inForm y words (λ f. byCarry f c words words (unlessPast c piece words (wordsIn f c piece words))))
   by-form (Is f) = by-carry f (eqb (c .stopped) 0) (couldGo f c) refl (couldStop c) refl
-  by-form Nothing = kept-leaves (bare 11) (λ r e. omega (arith, e))
+  by-form Nothing = kept-leaves (bare 11) 0 (none-carried _) (λ r e. omega (arith, e))
 
   leaves : Leaves (feedAnswer c piece ended (length words)) (feedWords c piece words)
   unfolding feedAnswer feedWords

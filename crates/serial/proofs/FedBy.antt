@@ -23,7 +23,20 @@ use Rattle.text_loops.specs.declared.Measured.{Measured}
 use Rattle.text_loops.specs.Fronts.{readIn, measured, wordsBefore}
 use Rattle.serial.specs.declared.Carry.{Carry}
 use Rattle.serial.specs.declared.Fed.{Fed}
-use Rattle.serial.specs.Feeding.{waiting, keptBy, stoppedBy, goneOn, noOctets, stopsPage, soFar, faultAt, fedBy, fedIn, wordsIn}
+use Rattle.serial.specs.Feeding.{
+  waiting,
+  keptBy,
+  noOctets,
+  stopsPage,
+  soFar,
+  respelledSoFar,
+  faultedBy,
+  endedBy,
+  waitsBy,
+  fedBy,
+  fedIn,
+  wordsIn,
+}
 use Rattle.open_elements.specs.Steps.{Gathered, FrontOf}
 use Rattle.open_elements.proofs.Faults.{fault-small}
 use Rattle.open_elements.proofs.Fronts.{accepted-measured, refused-read, refused-measured}
@@ -91,32 +104,27 @@ module _ (f : Form) (c : Carry) (piece : List ℕ) (ended : Bool) (words : List 
 
     -- a fault stops the page
     pub fed-fault : stopsPage (m .answer .number) ended ≡ true
-        → stoppedBy (c .form) (faultAt (c .answer) (c .holds) (m .answer)) (m .words) ≡ fedIn f c piece ended (length words)
+        → faultedBy c m ≡ fedIn f c piece ended (length words)
     fed-fault e = sym (simp e) ∙ fed-roomy
 
     -- the page ends
     pub fed-ended : stopsPage (m .answer .number) ended ≡ false → ended ≡ true
-        → stoppedBy (c .form) (soFar (c .answer) (length piece) m) (m .words) ≡ fedIn f c piece ended (length words)
+        → endedBy c (length piece) m ≡ fedIn f c piece ended (length words)
     fed-ended e k = sym (go (stopsPage (m .answer .number) ended) e ended k) ∙ fed-roomy
       where
         go : (t : Bool) → t ≡ false → (u : Bool) → u ≡ true
-            → pick t (stoppedBy (c .form) (faultAt (c .answer) (c .holds) (m .answer)) (m .words))
-            (pick u (stoppedBy (c .form) (soFar (c .answer) (length piece) m) (m .words))
-            (goneOn (c .form) (drop (m .answer .place) (waiting c ++ piece)) (soFar (c .answer) (length piece) m) (m .words)))
-            ≡ stoppedBy (c .form) (soFar (c .answer) (length piece) m) (m .words)
+            → pick t (faultedBy c m) (pick u (endedBy c (length piece) m) (waitsBy c (length piece) (waiting c ++ piece) m))
+            ≡ endedBy c (length piece) m
         go t e u k = simp (e, k)
 
     -- the page goes on
     fed-on : stopsPage (m .answer .number) ended ≡ false → ended ≡ false
-        → goneOn (c .form) (drop (m .answer .place) (waiting c ++ piece)) (soFar (c .answer) (length piece) m) (m .words)
-        ≡ fedIn f c piece ended (length words)
+        → waitsBy c (length piece) (waiting c ++ piece) m ≡ fedIn f c piece ended (length words)
     fed-on e k = sym (go (stopsPage (m .answer .number) ended) e ended k) ∙ fed-roomy
       where
         go : (t : Bool) → t ≡ false → (u : Bool) → u ≡ false
-            → pick t (stoppedBy (c .form) (faultAt (c .answer) (c .holds) (m .answer)) (m .words))
-            (pick u (stoppedBy (c .form) (soFar (c .answer) (length piece) m) (m .words))
-            (goneOn (c .form) (drop (m .answer .place) (waiting c ++ piece)) (soFar (c .answer) (length piece) m) (m .words)))
-            ≡ goneOn (c .form) (drop (m .answer .place) (waiting c ++ piece)) (soFar (c .answer) (length piece) m) (m .words)
+            → pick t (faultedBy c m) (pick u (endedBy c (length piece) m) (waitsBy c (length piece) (waiting c ++ piece) m))
+            ≡ waitsBy c (length piece) (waiting c ++ piece) m
         go t e u k = simp (e, k)
 
     -- and what is left waits
@@ -124,8 +132,16 @@ module _ (f : Form) (c : Carry) (piece : List ℕ) (ended : Bool) (words : List 
         → {size : ℕ} {held : List ℕ} → Gathered (waiting c ++ piece) (m .answer .place) zeros size held
         → record {
           carry =
-              record { answer = soFar (c .answer) (length piece) m; spare = 0; holds = size; form = c .form; stopped = 0; held = held };
+              record {
+                answer = soFar (c .answer) (length piece) m;
+                respelled = respelledSoFar c m;
+                holds = size;
+                form = c .form;
+                stopped = 0;
+                held = held;
+              };
           answer = soFar (c .answer) (length piece) m;
+          respelled = respelledSoFar c m;
           handed = m .words;
         }
         ≡ fedIn f c piece ended (length words)

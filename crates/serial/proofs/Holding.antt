@@ -16,16 +16,18 @@ use Rattle.run.specs.declared.Answer.{Answer}
 use Rattle.run.specs.Answers.{answer, bare, shortRoom, given, over}
 use Rattle.run.proofs.Outcomes as outcomes
 use Rattle.run.proofs.Answers.{given-append, given-length}
+use Rattle.run.proofs.Tallies.{tally-joined, tally-few}
 use Rattle.sorts.specs.declared.Form.{Form}
 use Rattle.sorts.specs.declared.FormFound.the-variants.{Is}
 use Rattle.sorts.specs.Forms.{formOf}
 use Rattle.element_words.specs.declared.Element.{Element}
 use Rattle.element_words.specs.Words.{wordsOf}
+use Rattle.element_spelling.specs.ElementOctets.{isCanonical}
 use Rattle.element_reading.specs.Grammar.{Spells, Refuses}
 use Rattle.element_reading.proofs.Reader.{reads, refuses-exactly-by}
 use Rattle.element_reading.proofs.Deciding.{unfinished}
 use Rattle.text_loops.specs.declared.Measured.{Measured}
-use Rattle.text_loops.specs.Fronts.{readIn}
+use Rattle.text_loops.specs.Fronts.{readIn, respelledBefore}
 use Rattle.text_reading.specs.ReadingNumbers.{limit, ReadingFault}
 use Rattle.serial.specs.declared.Carry.{Carry}
 use Rattle.serial.specs.declared.Fed.{Fed}
@@ -45,8 +47,11 @@ use Rattle.serial.specs.Feeding.{
   feedWords,
   soFar,
   faultAt,
+  faultedBy,
+  endedBy,
+  waitsBy,
 }
-use Rattle.open_elements.proofs.Fronts.{accepted-measured, ReadTo, refused-read, refused-measured}
+use Rattle.open_elements.proofs.Fronts.{accepted-measured, ReadTo, refused-read, refused-measured, fault-respelled}
 use Rattle.open_elements.proofs.Faults.{fault-small, run-small}
 
 -- none wait, or all that wait are refused with 4
@@ -63,7 +68,7 @@ pub record Holds (f : Form) (octets : List ℕ) (c : Carry) : Type 0 where
   pub begun : Open f (waiting c)
   pub is-form : formOf (c .form) ≡ Is f
   pub goes : c .stopped ≡ 0
-  pub spare : c .spare ≡ 0
+  pub respelled : c .respelled ≡ respelledBefore f front
   pub size : c .holds ≡ length (waiting c)
   pub few : c .holds ≤ 39
   pub within : length octets ≤ limit
@@ -96,9 +101,15 @@ module _ {f : Form} {octets : List ℕ} {c : Carry} (h : Holds f octets c) where
   sizes : length octets ≡ length (h .front) + c .holds
   sizes = ap length (h .whole) ∙ length-append (h .front) (waiting c) ∙ ap (λ (k : ℕ). length (h .front) + k) (sym (h .size))
 
+  -- the elements are accepted by themselves
+  front-read : readIn f (h .front) ≡ accepted (h .es)
+  front-read = outcomes.accepts (reads f) (h .front) (h .es) .1 (h .run)
+
   pub could-go : couldGo f c ≡ true
   could-go =
       let small = run-small (h .run) in
+      let few = tally-few (isCanonical f) (reads f) (h .front) (h .es) front-read in
+      let t0 : leb (c .respelled) (length (h .es)) ≡ true = le-leb (c .respelled) (length (h .es)) (omega (arith, h .respelled, few)) in
       let t1 : leb (c .holds) 39 ≡ true = le-leb _ _ (h .few) in
       let t2 : leb (length octets) limit ≡ true = le-leb _ _ (h .within) in
       let t3 : leb (c .holds) (length octets) ≡ true = le-leb (c .holds) (length octets) (omega (arith, sizes)) in
@@ -106,7 +117,7 @@ module _ {f : Form} {octets : List ℕ} {c : Carry} (h : Holds f octets c) where
       let t4 : leb (length (h .es)) left ≡ true = le-leb (length (h .es)) left (omega (arith, sizes, small)) in
       let ws : List ℕ = given wordsOf (h .es) in
       let t5 : leb (length ws) left ≡ true = le-leb (length ws) left (omega (arith, sizes, small)) in
-      simp (h .says, h .spare, t1, t2, t3, t4, t5, open-true (h .begun))
+      simp (h .says, t0, t1, t2, t3, t4, t5, open-true (h .begun))
 
   -- the words so far
   pub words-sofar : WordsUpToFault f octets (given wordsOf (h .es))
@@ -119,18 +130,20 @@ module _ {f : Form} {octets : List ℕ} {c : Carry} (h : Holds f octets c) where
 -- what it comes to: the answer and the carry, and what the lent words hold after
 module _ (f : Form) (octets : List ℕ) (c : Carry) (piece : List ℕ) (ended : Bool) (words : List ℕ) where
   pub data Fares : Fed → List ℕ → Type 0 where
-    past : limit < length (octets ++ piece) → Fares (stoppedBy (c .form) (bare 12) 0) words
+    past : limit < length (octets ++ piece) → Fares (stoppedBy (c .form) (bare 12) 0 0) words
     short : {ws : List ℕ} → length (octets ++ piece) ≤ limit → NewWords f octets piece ws → length words < length ws
         → Fares (keptBy c (shortRoom (length ws))) words
     faulted : {ws : List ℕ} {r n p d : ℕ} → length (octets ++ piece) ≤ limit → NewWords f octets piece ws → length ws ≤ length words
         → ReadingFault f (octets ++ piece) r n p d → (r ≡ 4 → ended ≡ true)
-        → Fares (stoppedBy (c .form) (answer r n p d) (length ws)) (over words ws)
+        → Fares (stoppedBy (c .form) (answer r n p d) 0 (length ws)) (over words ws)
     goes : {ws : List ℕ} {next : Carry} → length (octets ++ piece) ≤ limit → NewWords f octets piece ws → length ws ≤ length words
         → Holds f (octets ++ piece) next → ended ≡ false
-        → Fares (record { carry = next; answer = next .answer; handed = length ws }) (over words ws)
+        → Fares (record { carry = next; answer = next .answer; respelled = next .respelled; handed = length ws }) (over words ws)
     finished : {ws : List ℕ} {es : List Element} → length (octets ++ piece) ≤ limit → NewWords f octets piece ws
         → length ws ≤ length words → RunOf (Spells f) (octets ++ piece) es → ended ≡ true
-        → Fares (stoppedBy (c .form) (answer 0 (length es) (length (octets ++ piece)) (length (given wordsOf es))) (length ws))
+        → Fares
+        (stoppedBy (c .form) (answer 0 (length es) (length (octets ++ piece)) (length (given wordsOf es)))
+        (respelledBefore f (octets ++ piece)) (length ws))
         (over words ws)
 
 -- ---- what one call makes of the carry
@@ -138,6 +151,10 @@ module _ (f : Form) (octets : List ℕ) (c : Carry) (piece : List ℕ) (ended : 
 module _ {f : Form} {octets : List ℕ} {c : Carry} (h : Holds f octets c) (piece : List ℕ) (ended : Bool) (words : List ℕ) where
   abbrev s : List ℕ
   s = waiting c ++ piece
+
+  -- what was read of them: an answer, the words of so many elements, and how many were not canonical
+  abbrev read-as : List Element → Answer → Measured
+  read-as fs a = record { answer = a; words = length (given wordsOf fs); respelled = respelledBefore f s }
 
   abbrev now-whole : octets ++ piece ≡ h .front ++ s
   now-whole = ap (λ (l : List ℕ). l ++ piece) (h .whole) ∙ append-assoc (h .front) (waiting c) piece
@@ -147,7 +164,7 @@ module _ {f : Form} {octets : List ℕ} {c : Carry} (h : Holds f octets c) (piec
 
   -- the page goes on: 12, or what was read
   going : (feedAnswer c piece ended (length words)
-      ≡ pick (leb (length (octets ++ piece)) limit) (fedIn f c piece ended (length words)) (stoppedBy (c .form) (bare 12) 0))
+      ≡ pick (leb (length (octets ++ piece)) limit) (fedIn f c piece ended (length words)) (stoppedBy (c .form) (bare 12) 0 0))
       × (feedWords c piece words ≡ pick (leb (length (octets ++ piece)) limit) (wordsIn f c piece words) words)
   unfolding feedAnswer feedWords
   going =
@@ -168,10 +185,16 @@ module _ {f : Form} {octets : List ℕ} {c : Carry} (h : Holds f octets c) (piec
 
   -- the numbers so far
   numbers-now : (fs : List Element) (a : Answer) → a .element ≡ length fs
-      → soFar (c .answer) (length piece) (record { answer = a; words = length (given wordsOf fs) })
+      → soFar (c .answer) (length piece) (read-as fs a)
       ≡ answer 0 (length (h .es ++ fs)) (length (octets ++ piece)) (length (given wordsOf (h .es ++ fs)))
   numbers-now fs a e =
       simp (h .says, e, length-append (h .es) fs, length-append octets piece, given-length wordsOf (h .es) fs)
+
+  -- and the fifth: it adds up behind the elements that were read before
+  respelled-now : (u : List ℕ) → respelledBefore f s ≡ respelledBefore f u
+      → c .respelled + respelledBefore f s ≡ respelledBefore f (h .front ++ u)
+  respelled-now u e =
+      ap₂ _+_ (h .respelled) e ∙ sym (tally-joined (isCanonical f) (reads f) (h .front) u (h .es) (front-read h))
 
   -- a fault's numbers
   fault-now : (r n p d : ℕ)
@@ -187,10 +210,11 @@ module _ {f : Form} {octets : List ℕ} {c : Carry} (h : Holds f octets c) (piec
     Now = Fares f octets c piece ended words
 
     -- the carry where the page goes on, with `rest` waiting
-    holds-now : (front rest : List ℕ) (es : List Element) (a : Answer) (k : ℕ) → octets ++ piece ≡ front ++ rest → RunOf (Spells f) front es
-        → Open f rest → length rest ≤ 39 → a ≡ answer 0 (length es) (length (octets ++ piece)) (length (given wordsOf es))
-        → Holds f (octets ++ piece) (goneOn (c .form) rest a k .carry)
-    holds-now front rest es a k w r o few e =
+    holds-now : (front rest : List ℕ) (es : List Element) (a : Answer) (k handed : ℕ) → octets ++ piece ≡ front ++ rest
+        → RunOf (Spells f) front es → Open f rest → length rest ≤ 39
+        → a ≡ answer 0 (length es) (length (octets ++ piece)) (length (given wordsOf es)) → k ≡ respelledBefore f front
+        → Holds f (octets ++ piece) (goneOn (c .form) rest a k handed .carry)
+    holds-now front rest es a k handed w r o few e told =
         let is : take (length rest) (over noOctets rest) ≡ rest = take-append-seam rest (drop (length rest) noOctets) in
         record {
           front = front;
@@ -200,7 +224,7 @@ module _ {f : Form} {octets : List ℕ} {c : Carry} (h : Holds f octets c) (piec
           begun = subst (Open f) (sym is) o;
           is-form = h .is-form;
           goes = refl;
-          spare = refl;
+          respelled = told;
           size = ap length (sym is);
           few = few;
           within = within;
@@ -209,7 +233,7 @@ module _ {f : Form} {octets : List ℕ} {c : Carry} (h : Holds f octets c) (piec
 
     -- by the room
     by-room : (fs : List Element) (a : Answer) → NewWords f octets piece (given wordsOf fs) →
-        let m : Measured = record { answer = a; words = length (given wordsOf fs) } in
+        let m : Measured = read-as fs a in
         (length (given wordsOf fs) ≤ length words → Now (fedBy c (length piece) ended s m) (over words (given wordsOf fs)))
         → (t : Bool) → leb (length (given wordsOf fs)) (length words) ≡ t
         → Now (pick t (fedBy c (length piece) ended s m) (keptBy c (shortRoom (length (given wordsOf fs)))))
@@ -223,25 +247,24 @@ module _ {f : Form} {octets : List ℕ} {c : Carry} (h : Holds f octets c) (piec
       run-now = outcomes.run-append (h .run .1) (outcomes.accepts (reads f) s fs .0 q .1)
 
       abbrev accepted-now : Measured
-      accepted-now = record { answer = answer 0 (length fs) (length s) (length (given wordsOf fs)); words = length (given wordsOf fs) }
+      accepted-now = read-as fs (answer 0 (length fs) (length s) (length (given wordsOf fs)))
 
       accepted-new : NewWords f octets piece (given wordsOf fs)
       accepted-new = upto-now fs (UpToFault.to-the-end run-now)
 
       accepted-end : length (given wordsOf fs) ≤ length words → (t : Bool) → ended ≡ t
-          → Now (pick t (stoppedBy (c .form) (soFar (c .answer) (length piece) accepted-now) (length (given wordsOf fs)))
-          (goneOn (c .form) (drop (length s) s) (soFar (c .answer) (length piece) accepted-now) (length (given wordsOf fs))))
-          (over words (given wordsOf fs))
+          → Now (pick t (endedBy c (length piece) accepted-now) (waitsBy c (length piece) s accepted-now)) (over words (given wordsOf fs))
       accepted-end room true e =
-          subst (λ (a : Answer). Now (stoppedBy (c .form) a (length (given wordsOf fs))) (over words (given wordsOf fs)))
+          subst₂ (λ (a : Answer) (k : ℕ). Now (stoppedBy (c .form) a k (length (given wordsOf fs))) (over words (given wordsOf fs)))
           (sym (numbers-now fs (accepted-now .answer) refl))
+          (ap (respelledBefore f) now-whole ∙ sym (respelled-now s refl))
           (Fares.finished within accepted-new room (subst (λ (l : List ℕ). RunOf (Spells f) l (h .es ++ fs)) (sym now-whole) run-now) e)
       accepted-end room false e =
           let rest : drop (length s) s ≡ [] = drop-of-length-le s {i = length s} (omega arith) in
           Fares.goes within accepted-new room
-          (holds-now (h .front ++ s) (drop (length s) s) (h .es ++ fs) _ (length (given wordsOf fs))
+          (holds-now (h .front ++ s) (drop (length s) s) (h .es ++ fs) _ _ (length (given wordsOf fs))
           (now-whole ∙ sym (append-nil (h .front ++ s)) ∙ ap (λ (l : List ℕ). (h .front ++ s) ++ l) (sym rest)) run-now (Open.nothing rest)
-          (omega (arith, ap length rest)) (numbers-now fs (accepted-now .answer) refl))
+          (omega (arith, ap length rest)) (numbers-now fs (accepted-now .answer) refl) (respelled-now s refl))
           e
 
     -- the octets meet a fault
@@ -250,17 +273,16 @@ module _ {f : Form} {octets : List ℕ} {c : Carry} (h : Holds f octets c) (piec
       fs′ = z .fault .elements
 
       abbrev refused-now : Measured
-      refused-now = record { answer = answer r n p d; words = length (given wordsOf fs′) }
+      refused-now = read-as fs′ (answer r n p d)
 
       refused-new : NewWords f octets piece (given wordsOf fs′)
       refused-new = upto-now fs′ (UpToFault.to-a-fault (outcomes.stopped-behind (h .run) (z .fault)))
 
       -- it stops the page
       refused-stop : length (given wordsOf fs′) ≤ length words → (r ≡ 4 → ended ≡ true)
-          → Now (stoppedBy (c .form) (faultAt (c .answer) (c .holds) (answer r n p d)) (length (given wordsOf fs′)))
-          (over words (given wordsOf fs′))
+          → Now (faultedBy c refused-now) (over words (given wordsOf fs′))
       refused-stop room four =
-          subst (λ (a : Answer). Now (stoppedBy (c .form) a (length (given wordsOf fs′))) (over words (given wordsOf fs′)))
+          subst (λ (a : Answer). Now (stoppedBy (c .form) a 0 (length (given wordsOf fs′))) (over words (given wordsOf fs′)))
           (sym (fault-now r n p d))
           (Fares.faulted within refused-new room
           (subst (λ (l : List ℕ). ReadingFault f l r (length (h .es) + n) (length (h .front) + p) (length (h .front) + d)) (sym now-whole)
@@ -268,8 +290,7 @@ module _ {f : Form} {octets : List ℕ} {c : Carry} (h : Holds f octets c) (piec
 
       -- it is an unfinished element
       refused-waits : length (given wordsOf fs′) ≤ length words → r ≡ 4 → ended ≡ false
-          → Now (goneOn (c .form) (drop p s) (soFar (c .answer) (length piece) refused-now) (length (given wordsOf fs′)))
-          (over words (given wordsOf fs′))
+          → Now (waitsBy c (length piece) s refused-now) (over words (given wordsOf fs′))
       refused-waits room four e =
           let k : Refuses f (z .fault .rest) 4 (z .fault .behind) =
           subst (λ (m : ℕ). Refuses f (z .fault .rest) m (z .fault .behind)) four (z .fault .here) in
@@ -284,25 +305,22 @@ module _ {f : Form} {octets : List ℕ} {c : Carry} (h : Holds f octets c) (piec
           let open′ : Open f (drop p s) =
           subst (Open f) (sym rest) (Open.begun (subst (Refuses f (z .fault .rest) 4) (u .0) k)) in
           Fares.goes within refused-new room
-          (holds-now (h .front ++ z .fault .front) (drop p s) (h .es ++ fs′) _ (length (given wordsOf fs′)) whole
+          (holds-now (h .front ++ z .fault .front) (drop p s) (h .es ++ fs′) _ _ (length (given wordsOf fs′)) whole
           (outcomes.run-append (h .run .1) (z .fault .run .1)) open′
-          (omega (arith, ap length rest, u .1)) (numbers-now fs′ (refused-now .answer) (z .fault .element-number)))
+          (omega (arith, ap length rest, u .1)) (numbers-now fs′ (refused-now .answer) (z .fault .element-number))
+          (respelled-now (z .fault .front) (fault-respelled (z .fault))))
           e
 
       -- 4, by whether the page ends
       by-end : length (given wordsOf fs′) ≤ length words → r ≡ 4 → (t : Bool) → ended ≡ t
-          → Now (pick t (stoppedBy (c .form) (faultAt (c .answer) (c .holds) (answer r n p d)) (length (given wordsOf fs′)))
-          (pick t (stoppedBy (c .form) (soFar (c .answer) (length piece) refused-now) (length (given wordsOf fs′)))
-          (goneOn (c .form) (drop p s) (soFar (c .answer) (length piece) refused-now) (length (given wordsOf fs′)))))
+          → Now (pick t (faultedBy c refused-now) (pick t (endedBy c (length piece) refused-now) (waitsBy c (length piece) s refused-now)))
           (over words (given wordsOf fs′))
       by-end room four true e = refused-stop room (λ _. e)
       by-end room four false e = refused-waits room four e
 
       by-number : length (given wordsOf fs′) ≤ length words → (t : Bool) → eqb r 4 ≡ t → (u : Bool) → eqb r 0 ≡ u
-          → Now (pick (pick t ended (pick u false true))
-          (stoppedBy (c .form) (faultAt (c .answer) (c .holds) (answer r n p d)) (length (given wordsOf fs′)))
-          (pick ended (stoppedBy (c .form) (soFar (c .answer) (length piece) refused-now) (length (given wordsOf fs′)))
-          (goneOn (c .form) (drop p s) (soFar (c .answer) (length piece) refused-now) (length (given wordsOf fs′)))))
+          → Now (pick (pick t ended (pick u false true)) (faultedBy c refused-now)
+          (pick ended (endedBy c (length piece) refused-now) (waitsBy c (length piece) s refused-now)))
           (over words (given wordsOf fs′))
       by-number room true e u k = by-end room (eqb-true r 4 e) ended refl
       by-number room false e true k = absurd (omega (arith, eqb-true r 0 k, fault-small (z .fault) .some))
@@ -332,7 +350,7 @@ module _ {f : Form} {octets : List ℕ} {c : Carry} (h : Holds f octets c) (piec
       (by-limit (leb (length (octets ++ piece)) limit) refl)
     where
       by-limit : (t : Bool) → leb (length (octets ++ piece)) limit ≡ t
-          → Fares f octets c piece ended words (pick t (fedIn f c piece ended (length words)) (stoppedBy (c .form) (bare 12) 0))
+          → Fares f octets c piece ended words (pick t (fedIn f c piece ended (length words)) (stoppedBy (c .form) (bare 12) 0 0))
           (pick t (wordsIn f c piece words) words)
       by-limit true e = by-outcome (leb-true _ _ e) (readIn f s) refl
       by-limit false e = Fares.past (leb-false _ _ e)

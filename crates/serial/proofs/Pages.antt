@@ -1,5 +1,5 @@
--- A page in pieces, over lists of calls: the words handed out, the final answer, and each call's row; in the words of the grammar and of
--- `readAnswer`.
+-- A page in pieces, over lists of calls: the words handed out, the final answer with its fifth number, and each call's row; in the words of
+-- the grammar and of `readReading`.
 -- Assumes nothing.
 use Prim.Native.Nat.{ℕ, _≤_, _<_}
 use mathlib.Core.Path.{_≡_, refl, sym, ap, ap₂, _∙_, subst, subst₂}
@@ -14,24 +14,43 @@ use borrow.Author.Tests.{le-leb, ne-eqb}
 use Rattle.run.specs.Choice.{oneOf}
 use Rattle.run.specs.Head.{accepted}
 use Rattle.run.specs.Grammar.{RunOf}
+use Rattle.run.specs.Tally.{Apart}
 use Rattle.run.specs.declared.Answer.{Answer}
-use Rattle.run.specs.Answers.{answer, bare, given, over, roomyAnswer}
+use Rattle.run.specs.declared.ReadAnswer.{ReadAnswer}
+use Rattle.run.specs.Answers.{answer, bare, given, over, carrying, roomyAnswer}
+use Rattle.run.proofs.Answers.{carrying-none, carrying-it}
 use Rattle.sorts.specs.declared.Form.{Form}
 use Rattle.element_words.specs.declared.Element.{Element}
 use Rattle.element_words.specs.Words.{wordsOf}
+use Rattle.element_spelling.specs.ElementOctets.{CanonicalElement}
 use Rattle.element_reading.specs.Grammar.{Spells}
+use Rattle.element_reading.specs.ElementNumbers.{reading}
 use Rattle.element_reading.proofs.Reader.{is-or}
-use Rattle.text_loops.specs.Fronts.{readIn, wordsBefore}
+use Rattle.text_loops.specs.Fronts.{readIn, wordsBefore, respelledBefore}
 use Rattle.text_reading.specs.ReadingNumbers.{limit, ReadingFault}
 use Rattle.text_reading.proofs.ReadTexts.{accepted-exactly, refused-exactly}
 use Rattle.serial.specs.declared.Carry.{Carry}
 use Rattle.serial.specs.declared.Fed.{Fed}
 use Rattle.serial.specs.SerialNumbers.{UpToFault, WordsUpToFault, NewWords, GoesOn, FedRow}
-use Rattle.serial.specs.Feeding.{waiting}
+use Rattle.serial.specs.Feeding.{waiting, numbersOf}
 use Rattle.serial.specs.Promises.{FeedPromise}
-use Rattle.serial.specs.Calls.{Call, answerTo, Calls, without, pieces, page, taken, handedOut, OnlyLast, Ends, Repeats, AllGo}
+use Rattle.serial.specs.Calls.{
+  Call,
+  answerTo,
+  readingTo,
+  Calls,
+  without,
+  pieces,
+  page,
+  taken,
+  handedOut,
+  OnlyLast,
+  Ends,
+  Repeats,
+  AllGo,
+}
 use Rattle.open_elements.proofs.Faults.{fault-stays, fault-small}
-use Rattle.serial.proofs.WordsUpTo.{words-are}
+use Rattle.serial.proofs.WordsUpTo.{words-are, run-respelled}
 use Rattle.serial.proofs.Holding.{Open, Holds, Fares, fares}
 use Rattle.serial.proofs.Repeating.{repeated}
 
@@ -47,26 +66,26 @@ unfolding without
 left-out ns x xs e = simp e
 
 -- calls that repeat an answer hand out nothing
-repeats-handed : {a : Answer} {xs : List Call} → Repeats a xs → handedOut xs ≡ []
+repeats-handed : {a : ReadAnswer} {xs : List Call} → Repeats a xs → handedOut xs ≡ []
 unfolding handedOut
 repeats-handed Repeats.none = refl
 repeats-handed (Repeats.next {x} e h w r) = ap₂ _++_ (ap (λ (k : ℕ). take k (x .after)) h) (repeats-handed r)
 
 -- and all are kept, or all are left out
-repeats-kept : (ns : List ℕ) {a : Answer} {xs : List Call} → oneOf ns (a .number) ≡ false → Repeats a xs → without ns xs ≡ xs
+repeats-kept : (ns : List ℕ) {a : ReadAnswer} {xs : List Call} → oneOf ns (a .answer .number) ≡ false → Repeats a xs → without ns xs ≡ xs
 unfolding without
 repeats-kept ns t Repeats.none = refl
 repeats-kept ns t (Repeats.next {x} {xs} e h w r) =
-    kept-call ns x xs (ap (λ (a : Answer). oneOf ns (a .number)) e ∙ t) ∙ ap (λ (l : List Call). x ∷ l) (repeats-kept ns t r)
+    kept-call ns x xs (ap (λ (a : ReadAnswer). oneOf ns (a .answer .number)) e ∙ t) ∙ ap (λ (l : List Call). x ∷ l) (repeats-kept ns t r)
 
-repeats-out : (ns : List ℕ) {a : Answer} {xs : List Call} → oneOf ns (a .number) ≡ true → Repeats a xs → without ns xs ≡ []
+repeats-out : (ns : List ℕ) {a : ReadAnswer} {xs : List Call} → oneOf ns (a .answer .number) ≡ true → Repeats a xs → without ns xs ≡ []
 unfolding without
 repeats-out ns t Repeats.none = refl
 repeats-out ns t (Repeats.next {x} {xs} e h w r) =
-    left-out ns x xs (ap (λ (a : Answer). oneOf ns (a .number)) e ∙ t) ∙ repeats-out ns t r
+    left-out ns x xs (ap (λ (a : ReadAnswer). oneOf ns (a .answer .number)) e ∙ t) ∙ repeats-out ns t r
 
 -- the last of them answers it too
-repeats-ends : {a b : Answer} {xs : List Call} → Repeats a xs → Ends xs b → b ≡ a
+repeats-ends : {a b : ReadAnswer} {xs : List Call} → Repeats a xs → Ends xs b → b ≡ a
 repeats-ends (Repeats.next e h w r) (Ends.last t) = e
 repeats-ends (Repeats.next e h w r) (Ends.earlier t l) = repeats-ends r l
 
@@ -137,21 +156,21 @@ module _ {f : Form} {octets : List ℕ} {c d : Carry} (h : Holds f octets c) (x 
   row = subst₂ Row (sym (p .0)) (sym (p .1)) (fares h (x .piece) (x .ended) (x .words))
 
   -- the calls after one that ends the page answer as it does
-  after-all : {a : Answer} → answerTo x ≡ a → (a .number ≡ 9 → ⊥) → (a .number ≡ 0 → x .ended ≡ true) → Repeats a xs
+  after-all : {a : ReadAnswer} → readingTo x ≡ a → (a .answer .number ≡ 9 → ⊥) → (a .answer .number ≡ 0 → x .ended ≡ true) → Repeats a xs
   after-all {a} e not-9 at-end =
-      subst (λ (b : Answer). Repeats b xs) e
+      subst (λ (b : ReadAnswer). Repeats b xs) e
       (repeated c p
       (record {
-        not-9 = λ q. not-9 (sym (ap (λ (b : Answer). b .number) e) ∙ q);
-        at-end = λ q. at-end (sym (ap (λ (b : Answer). b .number) e) ∙ q);
+        not-9 = λ q. not-9 (sym (ap (λ (b : ReadAnswer). b .answer .number) e) ∙ q);
+        at-end = λ q. at-end (sym (ap (λ (b : ReadAnswer). b .answer .number) e) ∙ q);
       })
       cs)
 
   -- told that the page ends, and not answered 9, it is the last
-  last-call : {a : Answer} → answerTo x ≡ a → oneOf (9 ∷ []) (a .number) ≡ false → Repeats a xs → x .ended ≡ true
+  last-call : {a : ReadAnswer} → readingTo x ≡ a → oneOf (9 ∷ []) (a .answer .number) ≡ false → Repeats a xs → x .ended ≡ true
       → OnlyLast (without (9 ∷ []) (x ∷ xs)) → xs ≡ []
   last-call {a} e t r ended only =
-      let k = kept-call (9 ∷ []) x xs (ap (λ (b : Answer). oneOf (9 ∷ []) (b .number)) e ∙ t) in
+      let k = kept-call (9 ∷ []) x xs (ap (λ (b : ReadAnswer). oneOf (9 ∷ []) (b .answer .number)) e ∙ t) in
       sym (repeats-kept (9 ∷ []) t r) ∙ nothing-follows x (without (9 ∷ []) xs) (subst OnlyLast k only) ended
 
   abbrev WordsGo : Type 0
@@ -187,10 +206,11 @@ module _ {f : Form} {octets : List ℕ} {c d : Carry} (h : Holds f octets c) (x 
       → wordsBefore f octets′ ++ handedOut xs ≡ wordsBefore f (octets′ ++ taken xs))
       → (fed : Fed) (after : List ℕ) → Row fed after → x .fed ≡ fed → x .after ≡ after → WordsGo
   words-call only ih fed after (Fares.past beyond) e q =
-      let a : answerTo x ≡ bare 12 = ap (λ (r : Fed). r .answer) e in
+      let a : readingTo x ≡ reading (bare 12) 0 = ap numbersOf e in
       let r = after-all a (λ z. omega (arith, z)) (λ z. absurd (omega (arith, z))) in
       let none : without (9 ∷ 12 ∷ []) (x ∷ xs) ≡ [] =
-      left-out (9 ∷ 12 ∷ []) x xs (ap (λ (b : Answer). oneOf (9 ∷ 12 ∷ []) (b .number)) a) ∙ repeats-out (9 ∷ 12 ∷ []) refl r in
+      left-out (9 ∷ 12 ∷ []) x xs (ap (λ (b : ReadAnswer). oneOf (9 ∷ 12 ∷ []) (b .answer .number)) a)
+      ∙ repeats-out (9 ∷ 12 ∷ []) refl r in
       ap (λ (l : List ℕ). wordsBefore f octets ++ l) (handed-next x xs (ap (λ (r : Fed). r .handed) e) q ∙ repeats-handed r)
       ∙ append-nil (wordsBefore f octets)
       ∙ ap (wordsBefore f) (sym (append-nil octets) ∙ ap (λ (l : List ℕ). octets ++ l) (sym (ap pieces none ∙ pieces-none)))
@@ -204,11 +224,11 @@ module _ {f : Form} {octets : List ℕ} {c d : Carry} (h : Holds f octets c) (x 
       ∙ ap (λ (l : List Call). wordsBefore f (octets ++ pieces l))
       (sym (left-out (9 ∷ 12 ∷ []) x xs (ap (λ (n : ℕ). oneOf (9 ∷ 12 ∷ []) n) a)))
   words-call only ih fed after (Fares.faulted {ws} {r} {n} {p = k} {d = i} within new room at four) e q =
-      let a : answerTo x ≡ answer r n k i = ap (λ (b : Fed). b .answer) e in
+      let a : readingTo x ≡ reading (answer r n k i) 0 = ap numbersOf e in
       let small = fault-small at in
       let t = small-kept r (small .number) in
       let rep = after-all a (λ z. omega (arith, z, small .number)) (λ z. absurd (omega (arith, z, small .some))) in
-      words-by new (ap (λ (b : Fed). b .handed) e) q (ap (λ (b : Answer). oneOf (9 ∷ 12 ∷ []) (b .number)) a ∙ t .1)
+      words-by new (ap (λ (b : Fed). b .handed) e) q (ap (λ (b : ReadAnswer). oneOf (9 ∷ 12 ∷ []) (b .answer .number)) a ∙ t .1)
       (⊎-elim (λ is. words-end (octets ++ x .piece) (last-call a (t .0) rep (four is) only))
       (λ not. ap (λ (l : List ℕ). wordsBefore f (octets ++ x .piece) ++ l) (repeats-handed rep)
       ∙ append-nil (wordsBefore f (octets ++ x .piece))
@@ -219,9 +239,9 @@ module _ {f : Form} {octets : List ℕ} {c d : Carry} (h : Holds f octets c) (x 
       (ih (octets ++ x .piece) (subst (Holds f (octets ++ x .piece)) (sym (ap (λ (b : Fed). b .carry) e)) hn)
       (only-rest (subst OnlyLast (kept-call (9 ∷ []) x xs (ap (λ (m : ℕ). oneOf (9 ∷ []) m) zero)) only)))
   words-call only ih fed after (Fares.finished {ws} {es} within new room run ended) e q =
-      let a = ap (λ (b : Fed). b .answer) e in
+      let a = ap numbersOf e in
       let rep = after-all a (λ z. omega (arith, z)) (λ z. ended) in
-      words-by new (ap (λ (b : Fed). b .handed) e) q (ap (λ (b : Answer). oneOf (9 ∷ 12 ∷ []) (b .number)) a)
+      words-by new (ap (λ (b : Fed). b .handed) e) q (ap (λ (b : ReadAnswer). oneOf (9 ∷ 12 ∷ []) (b .answer .number)) a)
       (words-end (octets ++ x .piece) (last-call a refl rep ended only))
 
 pub words-of-calls : {f : Form} {c d : Carry} {xs : List Call} → Calls c xs d → (octets : List ℕ) → Holds f octets c
@@ -237,31 +257,36 @@ words-of-calls {f} (Calls.next {x = x} {xs = xs} p cs) octets h only =
 -- ---- the final answer
 
 -- the last call of a list, or a later one
-ends-cases : {x : Call} {xs : List Call} {a : Answer} → Ends (x ∷ xs) a
-    → ((xs ≡ []) × (x .ended ≡ true) × (a ≡ answerTo x)) ⊎ ((x .ended ≡ false) × Ends xs a)
+ends-cases : {x : Call} {xs : List Call} {a : ReadAnswer} → Ends (x ∷ xs) a
+    → ((xs ≡ []) × (x .ended ≡ true) × (a ≡ readingTo x)) ⊎ ((x .ended ≡ false) × Ends xs a)
 ends-cases (Ends.last t) = inl (refl, t, refl)
 ends-cases (Ends.earlier t l) = inr (t, l)
 
 not-both : {t : Bool} → t ≡ true → t ≡ false → ⊥
 not-both e k = let w : _≡_ {A = Bool} true false = sym e ∙ k in let z : _≡_ {A = ℕ} 0 1 = cc in omega arith
 
-none-ends : (xs : List Call) {a : Answer} → Ends xs a → xs ≡ [] → ⊥
+none-ends : (xs : List Call) {a : ReadAnswer} → Ends xs a → xs ≡ [] → ⊥
 none-ends xs (Ends.last t) e = omega (arith, ap length e)
 none-ends xs (Ends.earlier t l) e = omega (arith, ap length e)
 
--- an answer as the whole text has it
-abbrev Whole : Form → List ℕ → Answer → Type 0
-Whole f text a = a ≡ roomyAnswer wordsOf (length text) (readIn f text)
+-- an answer as the whole text has it, and the fifth number with it
+abbrev Whole : Form → List ℕ → ReadAnswer → Type 0
+Whole f text a = a ≡ carrying (roomyAnswer wordsOf (length text) (readIn f text)) (respelledBefore f text)
 
-whole-fault : {f : Form} {text : List ℕ} {r n p d : ℕ} → ReadingFault f text r n p d → Whole f text (answer r n p d)
+whole-fault : {f : Form} {text : List ℕ} {r n p d : ℕ} → ReadingFault f text r n p d → Whole f text (reading (answer r n p d) 0)
 whole-fault {f} {text} {r} {n} {p} {d} at =
     let q = refused-exactly f text r n p d .1 at in
     let t = le-leb r 8 (fault-small at .number) in
-    rw (q, t)
+    let e : answer r n p d ≡ roomyAnswer wordsOf (length text) (readIn f text) = rw (q, t) in
+    carrying-none (answer r n p d) (respelledBefore f text) (λ z. omega (arith, z, fault-small at .some))
+    ∙ ap (λ (a : Answer). carrying a (respelledBefore f text)) e
 
 whole-run : {f : Form} {text : List ℕ} {es : List Element} → RunOf (Spells f) text es
-    → Whole f text (answer 0 (length es) (length text) (length (given wordsOf es)))
-whole-run {f} {text} {es} r = rw (accepted-exactly f text es .1 r)
+    → Whole f text (reading (answer 0 (length es) (length text) (length (given wordsOf es))) (respelledBefore f text))
+whole-run {f} {text} {es} r =
+    let a : Answer = answer 0 (length es) (length text) (length (given wordsOf es)) in
+    let e : a ≡ roomyAnswer wordsOf (length text) (readIn f text) = rw (accepted-exactly f text es .1 r) in
+    carrying-it a (respelledBefore f text) refl ∙ ap (λ (b : Answer). carrying b (respelledBefore f text)) e
 
 module _ {f : Form} {octets : List ℕ} {c d : Carry} (h : Holds f octets c) (x : Call) (xs : List Call)
     (p : FeedPromise c (x .piece) (x .ended) (x .words) (x .fed) (x .after)) (cs : Calls (x .fed .carry) xs d) where
@@ -289,7 +314,7 @@ module _ {f : Form} {octets : List ℕ} {c d : Carry} (h : Holds f octets c) (x 
   never-past e t within beyond =
       omega (arith, within, beyond, ap length (page-with e t .1), length-append (octets ++ x .piece) (page xs))
 
-  final-call : {a : Answer} → Ends (without (9 ∷ []) (x ∷ xs)) a → length (octets ++ page (x ∷ xs)) ≤ limit
+  final-call : {a : ReadAnswer} → Ends (without (9 ∷ []) (x ∷ xs)) a → length (octets ++ page (x ∷ xs)) ≤ limit
       → ((octets′ : List ℕ) → Holds f octets′ (x .fed .carry) → Ends (without (9 ∷ []) xs) a → length (octets′ ++ page xs) ≤ limit
       → Whole f (octets′ ++ page xs) a)
       → (fed : Fed) (after : List ℕ) → Row h x xs p cs fed after → x .fed ≡ fed → Whole f (octets ++ page (x ∷ xs)) a
@@ -303,18 +328,18 @@ module _ {f : Form} {octets : List ℕ} {c d : Carry} (h : Holds f octets c) (x 
       (ih octets (subst (Holds f octets) (sym same) h) (subst (λ (l : List Call). Ends l a) k ends)
       (subst (λ (l : List ℕ). length l ≤ limit) text within))
   final-call {a} ends within ih fed after (Fares.faulted {ws} {r} {n} {p = k} {d = i} w new room at four) e =
-      let is : answerTo x ≡ answer r n k i = ap (λ (b : Fed). b .answer) e in
+      let is : readingTo x ≡ reading (answer r n k i) 0 = ap numbersOf e in
       let small = fault-small at in
       let t = small-kept r (small .number) in
       let rep = after-all h x xs p cs is (λ z. omega (arith, z, small .number)) (λ z. absurd (omega (arith, z, small .some))) in
-      let g = page-with is (t .0) in
+      let g = page-with (ap (λ (b : Fed). b .answer) e) (t .0) in
       let E = ends-cases (subst (λ (l : List Call). Ends l a) (g .0) ends) in
-      let same : a ≡ answer r n k i =
+      let same : a ≡ reading (answer r n k i) 0 =
       ⊎-elim (λ l. l .2 ∙ is) (λ l. repeats-ends rep (subst (λ (l : List Call). Ends l a) (repeats-kept (9 ∷ []) (t .0) rep) (l .1))) E in
       subst₂ (Whole f) (sym (g .1)) (sym same)
       (⊎-elim
       (λ m. ⊎-elim
-      (λ l. subst (λ (u : List ℕ). Whole f u (answer r n k i))
+      (λ l. subst (λ (u : List ℕ). Whole f u (reading (answer r n k i) 0))
       (sym (append-nil (octets ++ x .piece)) ∙ ap (λ (u : List ℕ). (octets ++ x .piece) ++ u) (sym (ap pieces (l .0) ∙ pieces-none)))
       (whole-fault at))
       (λ l. absurd (not-both (four m) (l .0))) E)
@@ -328,18 +353,17 @@ module _ {f : Form} {octets : List ℕ} {c d : Carry} (h : Holds f octets c) (x 
       (subst (λ (l : List ℕ). length l ≤ limit) (g .1) within))
       (ends-cases (subst (λ (l : List Call). Ends l a) (g .0) ends)))
   final-call {a} ends within ih fed after (Fares.finished {ws} {es} w new room run ended) e =
-      let is = ap (λ (b : Fed). b .answer) e in
-      let g = page-with is refl in
+      let g = page-with (ap (λ (b : Fed). b .answer) e) refl in
       ⊎-elim
       (λ l. subst₂ (Whole f)
       (sym (append-nil (octets ++ x .piece))
       ∙ ap (λ (u : List ℕ). (octets ++ x .piece) ++ u) (sym (ap pieces (l .0) ∙ pieces-none))
       ∙ sym (g .1))
-      (sym (l .2 ∙ is)) (whole-run run))
+      (sym (l .2 ∙ ap numbersOf e)) (whole-run run))
       (λ l. absurd (not-both ended (l .0)))
       (ends-cases (subst (λ (l : List Call). Ends l a) (g .0) ends))
 
-pub final-of-calls : {f : Form} {c d : Carry} {xs : List Call} {a : Answer} → Calls c xs d → (octets : List ℕ) → Holds f octets c
+pub final-of-calls : {f : Form} {c d : Carry} {xs : List Call} {a : ReadAnswer} → Calls c xs d → (octets : List ℕ) → Holds f octets c
     → Ends (without (9 ∷ []) xs) a → length (octets ++ page xs) ≤ limit → Whole f (octets ++ page xs) a
 final-of-calls {a = a} Calls.none octets h ends within =
     absurd (none-ends [] (subst (λ (l : List Call). Ends l a) (without-none (9 ∷ [])) ends) refl)
@@ -361,8 +385,8 @@ module _ {f : Form} {octets : List ℕ} {c d : Carry} (h : Holds f octets c) (x 
       ∙ sym (pieces-next x (without (9 ∷ []) xs))
       ∙ sym (ap pieces (kept-call (9 ∷ []) x xs (ap (λ (b : Answer). oneOf (9 ∷ []) (b .number)) e ∙ t .0)))
 
-  repeats-both : {a : Answer} → (oneOf (9 ∷ []) (a .number) ≡ false) × (oneOf (9 ∷ 12 ∷ []) (a .number) ≡ false) → Repeats a xs
-      → taken xs ≡ page xs
+  repeats-both : {a : ReadAnswer} → (oneOf (9 ∷ []) (a .answer .number) ≡ false) × (oneOf (9 ∷ 12 ∷ []) (a .answer .number) ≡ false)
+      → Repeats a xs → taken xs ≡ page xs
   repeats-both t r = ap pieces (repeats-kept (9 ∷ 12 ∷ []) (t .1) r ∙ sym (repeats-kept (9 ∷ []) (t .0) r))
 
   taken-call : length (octets ++ page (x ∷ xs)) ≤ limit
@@ -378,10 +402,10 @@ module _ {f : Form} {octets : List ℕ} {c d : Carry} (h : Holds f octets c) (x 
       ∙ ih octets (subst (Holds f octets) (sym same) h) (subst (λ (l : List Call). length (octets ++ pieces l) ≤ limit) k within)
       ∙ sym (ap pieces k)
   taken-call within ih fed after (Fares.faulted {ws} {r} {n} {p = k} {d = i} w new room at four) e =
-      let is : answerTo x ≡ answer r n k i = ap (λ (b : Fed). b .answer) e in
+      let is : readingTo x ≡ reading (answer r n k i) 0 = ap numbersOf e in
       let small = fault-small at in
       let t = small-kept r (small .number) in
-      kept-both is t
+      kept-both (ap (λ (b : Fed). b .answer) e) t
       (repeats-both t (after-all h x xs p cs is (λ z. omega (arith, z, small .number)) (λ z. absurd (omega (arith, z, small .some)))))
   taken-call within ih fed after (Fares.goes {ws} {next} w new room hn ended) e =
       let zero : answerTo x ≡ answer 0 _ _ _ = ap (λ (b : Fed). b .answer) e ∙ hn .says in
@@ -389,8 +413,8 @@ module _ {f : Form} {octets : List ℕ} {c d : Carry} (h : Holds f octets c) (x 
       (ih (octets ++ x .piece) (subst (Holds f (octets ++ x .piece)) (sym (ap (λ (b : Fed). b .carry) e)) hn)
       (subst (λ (l : List ℕ). length l ≤ limit) (page-with h x xs p cs zero refl .1) within))
   taken-call within ih fed after (Fares.finished {ws} {es} w new room run ended) e =
-      let is = ap (λ (b : Fed). b .answer) e in
-      kept-both is (refl, refl) (repeats-both (refl, refl) (after-all h x xs p cs is (λ z. omega (arith, z)) (λ z. ended)))
+      kept-both (ap (λ (b : Fed). b .answer) e) (refl, refl)
+      (repeats-both (refl, refl) (after-all h x xs p cs (ap numbersOf e) (λ z. omega (arith, z)) (λ z. ended)))
 
 pub taken-of-calls : {f : Form} {c d : Carry} {xs : List Call} → Calls c xs d → (octets : List ℕ) → Holds f octets c
     → length (octets ++ page xs) ≤ limit → taken xs ≡ page xs
@@ -440,13 +464,13 @@ holds-of-calls {f} {d = d} (Calls.next {x = x} {xs = xs} p cs) octets h (AllGo.g
 
 -- ---- one call's row, in the request's words
 
-pub goes-on : {f : Form} {octets : List ℕ} {c : Carry} (h : Holds f octets c) → GoesOn f octets (h .es)
-goes-on {f} {octets} {c} h = subst (λ (l : List ℕ). GoesOn f l (h .es)) (sym (h .whole)) (by-open (h .begun))
+pub goes-on : {f : Form} {octets : List ℕ} {c : Carry} (h : Holds f octets c) → GoesOn f octets (h .run .0) (h .es)
+goes-on {f} {octets} {c} h = subst (λ (l : List ℕ). GoesOn f l (h .run .0) (h .es)) (sym (h .whole)) (by-open (h .begun))
   where
-    by-open : Open f (waiting c) → GoesOn f (h .front ++ waiting c) (h .es)
+    by-open : Open f (waiting c) → GoesOn f (h .front ++ waiting c) (h .run .0) (h .es)
     by-open (Open.nothing e) =
-        subst (λ (l : List ℕ). GoesOn f (h .front ++ l) (h .es)) (sym e)
-        (subst (λ (l : List ℕ). GoesOn f l (h .es)) (sym (append-nil (h .front))) (GoesOn.finished (h .run)))
+        subst (λ (l : List ℕ). GoesOn f (h .front ++ l) (h .run .0) (h .es)) (sym e)
+        (subst (λ (l : List ℕ). GoesOn f l (h .run .0) (h .es)) (sym (append-nil (h .front))) (GoesOn.finished (h .run .1)))
     by-open (Open.begun k) =
         GoesOn.unfinished
         (record {
@@ -462,15 +486,21 @@ goes-on {f} {octets} {c} h = subst (λ (l : List ℕ). GoesOn f l (h .es)) (sym 
           deciding = refl;
         })
 
+-- and the carry counts its pieces that are not canonical
+pub carries-apart : {f : Form} {octets : List ℕ} {c : Carry} (h : Holds f octets c)
+    → Apart (CanonicalElement f) (h .run .0) (h .es) (c .respelled)
+carries-apart {f} {c = c} h = run-respelled f (h .front) (h .run .1) (c .respelled) .0 (sym (h .respelled))
+
 pub fed-row : {f : Form} {octets : List ℕ} {c : Carry} {piece : List ℕ} {ended : Bool} {words : List ℕ} {fed : Fed} {after : List ℕ}
-    → Fares f octets c piece ended words fed after → FedRow f octets piece ended words (fed .answer) (fed .handed) after
+    → Fares f octets c piece ended words fed after → FedRow f octets piece ended words (fed .answer) (fed .respelled) (fed .handed) after
 fed-row (Fares.past beyond) = FedRow.over-limit beyond
 fed-row (Fares.short within new room) = FedRow.short-room within new room
 fed-row (Fares.faulted within new room at four) = FedRow.fault within new room at four
 fed-row {f} {octets} {c} {piece} {ended} {words} (Fares.goes {ws} {next} within new room hn more) =
-    subst (λ (a : Answer). FedRow f octets piece ended words a (length ws) (over words ws)) (sym (hn .says))
-    (FedRow.so-far within new room (goes-on hn) more)
-fed-row (Fares.finished within new room run ended) = FedRow.accepted within new room run ended
+    subst (λ (a : Answer). FedRow f octets piece ended words a (next .respelled) (length ws) (over words ws)) (sym (hn .says))
+    (FedRow.so-far within new room (goes-on hn) (carries-apart hn) more)
+fed-row {f} {octets} {piece = piece} (Fares.finished within new room run ended) =
+    FedRow.accepted within new room (run .1) (run-respelled f (octets ++ piece) (run .1) _ .0 refl) ended
 
 -- what waits after it, where it ends the page: nothing
 pub none-waits : {f : Form} {octets : List ℕ} {c : Carry} {piece : List ℕ} {ended : Bool} {words : List ℕ} {fed : Fed} {after : List ℕ}

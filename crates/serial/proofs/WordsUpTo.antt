@@ -1,19 +1,27 @@
--- The words of a text's elements up to its end or its first fault are one list, and it is what the reader writes.
+-- The words of a text's elements up to its end or its first fault are one list, and it is what the reader writes; and how many of them are
+-- not canonical is one number, what the reader counts.
 -- Assumes nothing.
 use Prim.Native.Nat.{ℕ}
-use mathlib.Core.Path.{_≡_, refl, sym, subst}
+use mathlib.Core.Path.{_≡_, refl, sym, _∙_, subst}
+use mathlib.Core.Logic.{_↔_}
 use mathlib.Core.List.{List}
 use Rattle.run.specs.Head.{Outcome, accepted, refusal}
+use Rattle.run.specs.Grammar.{Run}
+use Rattle.run.specs.Tally.{Apart}
 use Rattle.run.specs.Answers.{given}
 use Rattle.run.proofs.Outcomes as outcomes
 use Rattle.run.proofs.Before.{given-before}
+use Rattle.run.proofs.Tallies.{apart-exactly}
 use Rattle.sorts.specs.declared.Form.{Form}
 use Rattle.element_words.specs.declared.Element.{Element}
 use Rattle.element_words.specs.Words.{wordsOf}
+use Rattle.element_spelling.specs.ElementOctets.{CanonicalElement, isCanonical}
+use Rattle.element_reading.specs.Grammar.{Spells}
 use Rattle.element_reading.proofs.Reader.{reads}
-use Rattle.text_loops.specs.Fronts.{readIn, wordsBefore}
-use Rattle.open_elements.proofs.Fronts.{fault-words, refused-read}
-use Rattle.serial.specs.SerialNumbers.{UpToFault, WordsUpToFault}
+use Rattle.element_reading.proofs.ReadBack.{canonical-decides}
+use Rattle.text_loops.specs.Fronts.{readIn, wordsBefore, respelledBefore}
+use Rattle.open_elements.proofs.Fronts.{fault-words, refused-read, fault-respelled}
+use Rattle.serial.specs.SerialNumbers.{UpToFault, WordsUpToFault, GoesOn}
 
 module _ (f : Form) (s : List ℕ) where
   upto-words : {es : List Element} → UpToFault f s es → wordsBefore f s ≡ given wordsOf es
@@ -34,3 +42,15 @@ module _ (f : Form) (s : List ℕ) where
       go (refusal r n p d) q =
           let z = refused-read f s r n p d q in
           subst (WordsUpToFault f s) (sym (z .words)) (WordsUpToFault.words-of (UpToFault.to-a-fault (z .fault)))
+
+  -- of a run, how many of its pieces are not canonical,
+  pub run-respelled : {ps : List (List ℕ)} {es : List Element} → Run (Spells f) s ps es → (k : ℕ)
+      → (respelledBefore f s ≡ k) ↔ Apart (CanonicalElement f) ps es k
+  run-respelled r k = apart-exactly (isCanonical f) (reads f) (canonical-decides f) r k
+
+  -- and of one that goes on
+  pub goes-respelled : {ps : List (List ℕ)} {es : List Element} {k : ℕ} → GoesOn f s ps es → Apart (CanonicalElement f) ps es k
+      → respelledBefore f s ≡ k
+  goes-respelled {k = k} (GoesOn.finished r) h = run-respelled r k .1 h
+  goes-respelled {k = k} (GoesOn.unfinished at) h =
+      fault-respelled at ∙ apart-exactly (isCanonical f) (reads f) (canonical-decides f) (at .run .1) k .1 h

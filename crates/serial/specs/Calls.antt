@@ -9,13 +9,16 @@ use mathlib.Core.List.{List, [], _∷_, _++_}
 use lib.ListN.{length, take}
 use Rattle.run.specs.Choice.{pick, oneOf}
 use Rattle.run.specs.Grammar.{RunOf}
+use Rattle.run.specs.Tally.{Apart}
 use Rattle.run.specs.declared.Answer.{Answer}
+use Rattle.run.specs.declared.ReadAnswer.{ReadAnswer}
 use Rattle.sorts.specs.declared.Form.{Form}
 use Rattle.element_words.specs.declared.Element.{Element}
+use Rattle.element_spelling.specs.ElementOctets.{CanonicalElement}
 use Rattle.element_reading.specs.Grammar.{Spells, Cut-short}
 use Rattle.serial.specs.declared.Carry.{Carry}
 use Rattle.serial.specs.declared.Fed.{Fed}
-use Rattle.serial.specs.Feeding.{waiting}
+use Rattle.serial.specs.Feeding.{waiting, numbersOf}
 use Rattle.serial.specs.Promises.{FreshPromise, FeedPromise}
 
 -- a call: its piece, whether it is told that the page ends, the words lent, what it answers, and what the words hold after
@@ -28,6 +31,10 @@ pub record Call : Type 0 where
 
 abbrev pub answerTo : Call → Answer
 answerTo x = x .fed .answer
+
+-- with the fifth number
+abbrev pub readingTo : Call → ReadAnswer
+readingTo x = numbersOf (x .fed)
 
 -- each call is given the carry that the one before it left; d is the last carry
 pub data Calls : Carry → List Call → Carry → Type 0 where
@@ -73,15 +80,15 @@ pub data OnlyLast : List Call → Type 0 where
   last : {x : Call} → OnlyLast (x ∷ [])
   earlier : {x : Call} {xs : List Call} → x .ended ≡ false → OnlyLast xs → OnlyLast (x ∷ xs)
 
--- the last of them is told that the page ends, and none before it; and this is what it answers
-pub data Ends : List Call → Answer → Type 0 where
-  last : {x : Call} → x .ended ≡ true → Ends (x ∷ []) (answerTo x)
-  earlier : {x : Call} {xs : List Call} {a : Answer} → x .ended ≡ false → Ends xs a → Ends (x ∷ xs) a
+-- the last of them is told that the page ends, and none before it; and this is what it answers, five numbers
+pub data Ends : List Call → ReadAnswer → Type 0 where
+  last : {x : Call} → x .ended ≡ true → Ends (x ∷ []) (readingTo x)
+  earlier : {x : Call} {xs : List Call} {a : ReadAnswer} → x .ended ≡ false → Ends xs a → Ends (x ∷ xs) a
 
--- each of them answers a, hands out nothing, and leaves its words as they stood
-pub data Repeats (a : Answer) : List Call → Type 0 where
+-- each of them answers a, all five numbers, hands out nothing, and leaves its words as they stood
+pub data Repeats (a : ReadAnswer) : List Call → Type 0 where
   none : Repeats a []
-  next : {x : Call} {xs : List Call} → answerTo x ≡ a → x .fed .handed ≡ 0 → x .after ≡ x .words → Repeats a xs → Repeats a (x ∷ xs)
+  next : {x : Call} {xs : List Call} → readingTo x ≡ a → x .fed .handed ≡ 0 → x .after ≡ x .words → Repeats a xs → Repeats a (x ∷ xs)
 
 -- the page goes on after each of them: it is answered 9, or 0 before the end
 pub data AllGo : List Call → Type 0 where
@@ -94,12 +101,14 @@ pub record Final (x : Call) : Type 0 where
   pub not-9 : answerTo x .number ≡ 9 → ⊥
   pub at-end : answerTo x .number ≡ 0 → x .ended ≡ true
 
--- "carries an unfinished element of at most 39 octets": the octets taken are elements, and those that wait
+-- "carries an unfinished element of at most 39 octets": the octets taken are elements, and those that wait; it counts the elements that are
+-- not canonical
 pub record Carried (f : Form) (octets : List ℕ) (c : Carry) : Type 0 where
   pub front : List ℕ
   pub elements : List Element
   pub whole : octets ≡ front ++ waiting c
   pub run : RunOf (Spells f) front elements
+  pub respelled : Apart (CanonicalElement f) (run .0) elements (c .respelled)
   pub unfinished : (waiting c ≡ []) ⊎ Cut-short f (waiting c)
   pub size : c .holds ≡ length (waiting c)
   pub few : c .holds ≤ 39

@@ -1,5 +1,6 @@
 -- To be believed: the promise of each public function, by its name; its arguments, at entry, then its result, then what a lent buffer holds
--- after. Which rows of request No. 1 the answers are, and what calls come to, one after another, is proved in proofs/Theorems.
+-- after. Which rows of request No. 1 the answers are, with the fifth number of No. 5, and what calls come to, one after another, is proved
+-- in proofs/Theorems.
 -- Assumes nothing.
 use Prim.Native.Nat.{ℕ}
 use mathlib.Core.Path.{_≡_}

@@ -7,7 +7,7 @@ ghost use Prim.Native.Nat.{_+_, _≤_};
 ghost use lib.ListN.{length};
 ghost use mathlib.Core.Bool.{true};
 ghost use Rattle.text_reading.specs.ReadingNumbers.{limit};
-ghost use Rattle.serial.specs.Feeding.{couldGo, couldEnd, couldStop, keptBy, stoppedBy, stopsPage, fedIn, wordsIn};
+ghost use Rattle.serial.specs.Feeding.{couldGo, couldEnd, couldStop, keptBy, repeatedBy, stoppedBy, stopsPage, fedIn, wordsIn};
 ghost use Rattle.serial.specs.Promises.{FreshPromise, FeedPromise};
 
 // What goes from one call to the next. Every value of it gets an answer, also one that nobody made by `fresh`.
@@ -15,8 +15,8 @@ ghost use Rattle.serial.specs.Promises.{FreshPromise, FeedPromise};
 pub struct Carry {
     // since fresh: 0, elements, octets taken, words; of a page that ended or was refused, the answer that is repeated
     pub answer: Answer,
-    // room for one more count: 0
-    pub spare: usize,
+    // since fresh: how many elements did not stand in their canonical spelling; of a page that ended, the number that is repeated
+    pub respelled: usize,
     // how many octets of an unfinished element wait
     pub holds: usize,
     // the form's number; 0 before the carry has one
@@ -27,11 +27,13 @@ pub struct Carry {
     pub held: [u8; 39],
 }
 
-// A call's answer: the carry for the next one, the four numbers, and how many words were handed out.
+// A call's answer: the carry for the next one, the four numbers, the fifth, and how many words were handed out.
 #[repr(C)]
 pub struct Fed {
     pub carry: Carry,
     pub answer: Answer,
+    // accepted: as the carry has it; refused: 0
+    pub respelled: usize,
     pub handed: usize,
 }
 
@@ -44,7 +46,7 @@ impl Carry {
             place: 0,
             count: 0,
         },
-        spare: 0,
+        respelled: 0,
         holds: 0,
         form: 0,
         stopped: 0,
@@ -74,8 +76,7 @@ impl Carry {
         };
         if self.stopped != 0 {
             if could_stop(self) {
-                let answer = self.answer;
-                return kept(self, answer);
+                return repeated(self);
             }
             return kept(self, run::bare_answer(11));
         }
@@ -84,34 +85,51 @@ impl Carry {
         }
         let so_far = self.answer;
         if text_reading::LIMIT - so_far.place < piece.len() {
-            return stop(self.form, run::bare_answer(12), 0);
+            return stop(self.form, run::bare_answer(12), 0, 0);
         }
         feed_in(form, self, piece, ended, words)
     }
 }
 
-// An answer that hands out nothing and leaves the carry as it was.
+// An answer that hands out nothing and leaves the carry as it was: a refusal, or what a fresh page answers.
 fn kept(carry: Carry, answer: Answer) -> Fed
     ensures { λ r. ⌜ r ≡ keptBy carry answer ⌝ }
 {
     Fed {
         carry,
         answer,
+        respelled: 0,
+        handed: 0,
+    }
+}
+
+// The answer of a page that ended or was refused, again.
+fn repeated(carry: Carry) -> Fed
+    ensures { λ r. ⌜ r ≡ repeatedBy carry ⌝ }
+{
+    let answer = carry.answer;
+    let respelled = carry.respelled;
+    Fed {
+        carry,
+        answer,
+        respelled,
         handed: 0,
     }
 }
 
 // 02: "Any other refusal, or the final answer, is repeated with nothing handed out until made fresh."
-fn stop(form: u32, answer: Answer, handed: usize) -> Fed
-    ensures { λ r. ⌜ r ≡ stoppedBy form answer handed ⌝ }
+fn stop(form: u32, answer: Answer, respelled: usize, handed: usize) -> Fed
+    ensures { λ r. ⌜ r ≡ stoppedBy form answer respelled handed ⌝ }
 {
     let mut carry = Carry::FRESH;
     carry.answer = answer;
+    carry.respelled = respelled;
     carry.form = form;
     carry.stopped = 1;
     Fed {
         carry,
         answer,
+        respelled,
         handed,
     }
 }
@@ -125,7 +143,7 @@ fn could_go(form: Form, carry: Carry) -> bool
     if a.number != 0 {
         return false;
     }
-    if carry.spare != 0 {
+    if a.element < carry.respelled {
         return false;
     }
     if 39 < holds {
@@ -186,13 +204,20 @@ fn could_stop(carry: Carry) -> bool
     if carry.stopped != 1 {
         return false;
     }
-    if carry.spare != 0 {
-        return false;
-    }
     if carry.holds != 0 {
         return false;
     }
-    could_end(carry.answer)
+    let a = carry.answer;
+    if a.number == 0 {
+        if a.element < carry.respelled {
+            return false;
+        }
+        return could_end(a);
+    }
+    if carry.respelled != 0 {
+        return false;
+    }
+    could_end(a)
 }
 
 // Whether a refusal stops the page: 4 does so at its end alone, since before it the element waits for the next piece.
@@ -232,6 +257,7 @@ fn feed_in(form: Form, carry: Carry, piece: &[u8], ended: bool, words: &mut [u32
                 place: before + read.place,
                 count: before + read.count,
             },
+            0,
             m.words,
         );
     }
@@ -241,21 +267,23 @@ fn feed_in(form: Form, carry: Carry, piece: &[u8], ended: bool, words: &mut [u32
         place: so_far.place + piece.len(),
         count: so_far.count + m.words,
     };
+    let respelled = carry.respelled + m.respelled;
     if ended {
-        return stop(carry.form, answer, m.words);
+        return stop(carry.form, answer, respelled, m.words);
     }
     let mut open = [0; 39];
     let size = open_elements::gather(&held[..holds], piece, read.place, &mut open);
     Fed {
         carry: Carry {
             answer,
-            spare: 0,
+            respelled,
             holds: size,
             form: carry.form,
             stopped: 0,
             held: open,
         },
         answer,
+        respelled,
         handed: m.words,
     }
 }

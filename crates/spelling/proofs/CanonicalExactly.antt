@@ -86,7 +86,7 @@ tested Eight = record { sorted = refl; first = refl; mark = refl; after = refl; 
 tested Seven = record { sorted = refl; first = refl; mark = refl; after = refl; mark-after = refl }
 tested Basic = record { sorted = refl; first = refl; mark = refl; after = refl; mark-after = refl }
 
-record Shifted-cell (f : Form) (by : ℕ → Octet) (cells : List Cell) (sort : ℕ → Sort) (o c : ℕ) : Type 0 where
+pub record Shifted-cell (f : Form) (by : ℕ → Octet) (cells : List Cell) (sort : ℕ → Sort) (o c : ℕ) : Type 0 where
   pub shifts : sortIn f SS2 ≡ Shift
   pub sorts : shiftedIn f o ≡ sort c
   pub not-bare : by c ≡ Absent
@@ -125,7 +125,7 @@ module _ (f : Form) where
   shifted-first : {o c : ℕ} → Codes f c (Shifted o) → Shifted-graphic o c
   shifted-first {o} {c} (Codes.shifted s e) = shifted-cell (shifted-says f o (Graphic c) e)
 
-  record Mark-cell (o m : ℕ) : Type 0 where
+  pub record Mark-cell (o m : ℕ) : Type 0 where
     pub sorts : sortIn f o ≡ Mark m
     pub is-it : octetIn (A f .marks) m ≡ Is o
 
@@ -135,7 +135,7 @@ module _ (f : Form) where
       let e = at-member {B = Mark-fact} (markTold (A f)) markWanted h (tested f .mark) in
       record { sorts = ap (λ (p : Mark-fact). p .0) e; is-it = ap (λ (p : Mark-fact). p .1) e }
 
-  mark-first : (o m : ℕ) → sortIn f o ≡ Mark m → Mark-cell o m
+  pub mark-first : (o m : ℕ) → sortIn f o ≡ Mark m → Mark-cell o m
   mark-first o m e = mark-cell (sort-says f o (Mark m) e)
 
   abbrev Shifted-mark : ℕ → ℕ → Type 0
@@ -144,7 +144,7 @@ module _ (f : Form) where
   shifted-mark : {o m : ℕ} → List·Memᴰ (o is m) (A f .shiftedMarks) → Shifted-mark o m
   shifted-mark = after-shift f (octetIn (A f .marks)) (A f .shiftedMarks) Mark (tested f .mark-after)
 
-  shifted-mark-first : (o m : ℕ) → shiftedIn f o ≡ Mark m → Shifted-mark o m
+  pub shifted-mark-first : (o m : ℕ) → shiftedIn f o ≡ Mark m → Shifted-mark o m
   shifted-mark-first o m e = shifted-mark (shifted-says f o (Mark m) e)
 
   -- ---- what the definition looks up, and what codes

@@ -1,3 +1,4 @@
 mod Slots
 pub mod LentSpellings
+pub mod StoredOctets
 pub mod OneAnswer

@@ -64,6 +64,11 @@ pub fn low_in(table: &[u32; 430], c: u32) -> u32
     table[c as usize]
 }
 
+// From here on a packed spelling has two octets, and three. One octet stands below; 0 is no spelling.
+pub const TWO_OCTETS: u32 = 0x2000000;
+
+pub const THREE_OCTETS: u32 = 0x3000000;
+
 // How many octets a packed spelling has.
 pub fn packed_size(p: u32) -> usize
     ensures { λ r. ⌜ PackedSizePromise p r ⌝ }

@@ -11,6 +11,7 @@ use Rattle.run.specs.Loops.{WholeAnswer}
 use Rattle.run.specs.Head.{refused, Outcome, accepted, refusal, from, outcome, join}
 use Rattle.run.specs.Grammar.{Run, RunOf, done, more, Stopped}
 use Rattle.run.specs.declared.Answer.{Answer}
+use Rattle.run.specs.declared.ReadAnswer.{ReadAnswer}
 use Rattle.run.specs.Answers.{given, same, afterReading}
 use Rattle.run.proofs.Outcomes as outcomes
 use Rattle.run.proofs.Spellers.{spelt-not, why}
@@ -21,13 +22,16 @@ use Rattle.element_words.specs.declared.Element.{Element}
 use Rattle.element_reading.specs.Grammar.{Spells}
 use Rattle.element_reading.specs.ElementHead.{headIn}
 use Rattle.element_reading.proofs.Reader.{reads, begins-head}
+use Rattle.element_reading.proofs.ReadBack.{read-held}
 use Rattle.element_spelling.specs.ElementOctets.{CanonicalElement, Held, spellElement}
-use Rattle.element_spelling.proofs.Writer.{canonical-given, canonical-some, read-held}
+use Rattle.element_spelling.proofs.Writer.{canonical-given, canonical-some}
 use Rattle.text_loops.specs.Fronts.{readIn}
+use Rattle.text_reading.specs.ReadAnswers.{respelledIn}
 use Rattle.text_reading.specs.ReadingNumbers.{limit}
-use Rattle.text_reading.proofs.Edges.{a-form, within}
+use Rattle.text_reading.proofs.Edges.{a-form, within, carried}
 use Rattle.text_reading.specs.LawWords.{Meets}
 use Rattle.text_reading.proofs.ReadTexts.{accepted-exactly, read-meets}
+use Rattle.text_respelling.specs.Promises.{RespellPromise}
 use Rattle.text.specs.Outcomes.{Respells, respellHead, respellIn, convertIn}
 use Rattle.text.specs.WriteAnswers.{convertAnswer, convertText}
 use Rattle.text.specs.WritingNumbers.{FirstNotHeld, ConvertingFault}
@@ -165,14 +169,22 @@ module _ (f g h : Form) where
   respelt-alike done done = refl
   respelt-alike (more {s = t} {e = e} sp r) (more {s = u} sq r′) = alike-more sp sq t u (respelt-alike r r′) (spellElement h e) refl
 
--- ---- the answers, where both forms are known and the text is within the limit
+-- ---- the answers, where both forms are known
 
-module _ (source target : ℕ) (f g : Form) (is-source : formOf source ≡ Is f) (is-target : formOf target ≡ Is g)
-    (text out : List ℕ) (inside : length text ≤ limit) where
-  pub converted : (r : Answer) (out′ : List ℕ) → WholeAnswer same (length text) out (convertIn f g text) r out′
-      → ConvertPromise source target text out r out′
+module _ (source target : ℕ) (f g : Form) (is-source : formOf source ≡ Is f) (is-target : formOf target ≡ Is g) (text out : List ℕ) where
+  -- what respelling promises, with the number that it carries
+  pub promised : {r : ReadAnswer} {after : List ℕ} → RespellPromise f g text out r after → ConvertPromise source target text out r after
+  unfolding convertAnswer convertText convertIn respelledIn
+  promised e = (
+    carried _ _ _ _ (e .0) (a-form _ _ _ _ _ is-source (a-form _ _ _ _ _ is-target refl)) (a-form _ _ _ _ _ is-source refl),
+    a-form _ _ _ _ _ is-source (a-form _ _ _ _ _ is-target (e .1)),
+  )
+
+  -- and of a text within the limit
+  pub converted : length text ≤ limit → (r : Answer) (after : List ℕ) → WholeAnswer same (length text) out (convertIn f g text) r after
+      → (r ≡ convertAnswer source target text (length out)) × (after ≡ convertText source target text out)
   unfolding convertAnswer convertText
-  converted r out′ e = (
+  converted inside r after e = (
     a-form _ _ _ _ _ is-source (a-form _ _ _ _ _ is-target (e .0 ∙ within text _ _ inside)),
     a-form _ _ _ _ _ is-source (a-form _ _ _ _ _ is-target (e .1 ∙ within text _ _ inside)),
   )

@@ -1,7 +1,7 @@
 -- The theorems of record: what the public functions of `text` and `text_reading` are worth. They speak of the promises, which the
 -- contracts cite by name (`ReadPromise` and the like), and of the definitions that these stand for (`readAnswer`, `readWords` and the
 -- like), in the words of the grammar (`Spells`, `Refuses`, `CanonicalElement`, `Held`), over the form. The sentence above each is the
--- demand's that it carries out; document 01's own words stand in quotation marks.
+-- demand's that it carries out; document 01's own words, and 02's where it is named, stand in quotation marks.
 -- Assumes nothing.
 use Prim.Native.Nat.{ℕ, _+_, _≤_, _<_}
 use mathlib.Core.Path.{_≡_, refl, sym, ap, ap₂, _∙_, subst, subst₂}
@@ -12,14 +12,17 @@ use native.Mathlib.Omega.{arith}
 use lib.ListN.{length, take, drop, length-append}
 use lib.Seq.{take-append-seam}
 use lib.Dec.{leb}
+use borrow.Author.Tests.{eq-eqb, ne-eqb}
 use Rattle.run.specs.Choice.{pick}
 use Rattle.run.specs.Head.{Outcome, accepted, refusal}
 use Rattle.run.specs.Grammar.{Run, RunOf, done, more, Begins}
 use Rattle.run.specs.declared.Answer.{Answer}
-use Rattle.run.specs.Answers.{answer, bare, shortRoom, countOf, given, answerOf, writtenOf, over, same}
+use Rattle.run.specs.declared.ReadAnswer.{ReadAnswer}
+use Rattle.run.specs.Answers.{answer, bare, shortRoom, carrying, countOf, given, answerOf, writtenOf, over, same}
 use Rattle.run.proofs.Outcomes as outcomes
 use Rattle.run.proofs.Outcomes.{run-append, run-by, run-length}
 use Rattle.run.proofs.Answers.{given-append}
+use Rattle.run.proofs.Tallies.{tally-joined}
 use Rattle.run.specs.OneAnswer.{Once, OnceBoth}
 use Rattle.sorts.specs.declared.Form.{Form}
 use Rattle.sorts.specs.declared.FormFound.{FormFound}
@@ -28,22 +31,23 @@ use Rattle.sorts.specs.Forms.{formOf, inForm}
 use Rattle.element_words.specs.declared.Element.{Element}
 use Rattle.element_words.specs.Words.{wordsOf}
 use Rattle.element_reading.specs.Grammar.{Spells, Refuses}
-use Rattle.element_reading.specs.ElementNumbers.{stepAnswer, stepWords, ElementRow}
-use Rattle.element_spelling.specs.ElementOctets.{CanonicalElement, Held, Writes}
+use Rattle.element_reading.specs.ElementNumbers.{stepAnswer, stepReading, stepWords, ElementRow}
+use Rattle.element_spelling.specs.ElementOctets.{CanonicalElement, Held, Writes, isCanonical}
 use Rattle.element_reading.proofs.Reader.{reads}
+use Rattle.element_reading.proofs.ReadBack.{canonical-spells, read-held, says-canonical}
 use Rattle.element_reading.proofs.Places.{reading-number}
-use Rattle.element_spelling.proofs.Writer.{canonical-spells, one-spelling, read-held, writer-reads, writer-refuses-exactly}
-use Rattle.text_loops.specs.Fronts.{readIn}
-use Rattle.text_reading.specs.ReadAnswers.{within-limit, readAnswer, readWords, loneStep}
-use Rattle.text_reading.specs.Promises.{MeasurePromise, ReadPromise, ReadElementPromise}
-use Rattle.text_reading.specs.ReadingNumbers.{limit, Answered, Formed, Tells, ReadingFault, ReadTable, LoneTable}
+use Rattle.element_spelling.proofs.Writer.{one-spelling, is-canonical, writer-reads, writer-refuses-exactly}
+use Rattle.text_loops.specs.Fronts.{readIn, respelledBefore}
+use Rattle.text_reading.specs.ReadAnswers.{within-limit, readAnswer, readWords, respelledIn, loneStep, oneReading, oneWords}
+use Rattle.text_reading.specs.Promises.{MeasurePromise, ReadPromise, ReadElementPromise, ReadOnePromise}
+use Rattle.text_reading.specs.ReadingNumbers.{limit, Answered, Formed, Tells, ReadingFault, ReadTable, LoneTable, OneTable}
 use Rattle.text_reading.proofs.Edges.{a-form}
 use Rattle.text_reading.specs.LawWords.{Meets}
 use Rattle.text_reading.proofs.ByTable.{by-table, by-form, in-its-form, no-form-exactly, tells, kept-in-form}
 use Rattle.text_loops.proofs.Steps.{count-is-place}
 use Rattle.text_loops.proofs.FewWords.{words-fit}
 use Rattle.text_reading.proofs.ReadTexts.{read-meets}
-use Rattle.text_reading.proofs.Lone.{lone-exactly}
+use Rattle.text_reading.proofs.Lone.{lone-exactly, one-exactly}
 use Rattle.text_reading.proofs.OneAnswer as reading
 use Rattle.text.specs.Outcomes.{Respells, writeIn, convertIn}
 use Rattle.text.specs.WriteAnswers.{writeAnswer, writeText, convertAnswer, convertText}
@@ -96,30 +100,57 @@ pub measure-exactly : (form : ℕ) (text : List ℕ) (a : Answer) (after : List 
     → ((readAnswer form text (length text) ≡ a) × (readWords form text text ≡ after)) ↔ ReadTable form text text a after
 measure-exactly form text = read-exactly form text text
 
--- So the promises, by the names that the functions' `ensures` cite, are that table.
-pub read-promised : (form : ℕ) (text words : List ℕ) (r : Answer) (after : List ℕ)
-    → ReadPromise form text words r after ↔ ReadTable form text words r after
-read-promised form text words r after = turned (read-exactly form text words r after)
+-- the four numbers of an answer that carries a fifth
+four : {r x : ReadAnswer} → r ≡ x → r .answer ≡ x .answer
+four e = ap (λ (x : ReadAnswer). x .answer) e
+
+-- where the four numbers and the buffer are a table's exactly, so are those of an answer that carries a fifth
+carries : {Table : Answer → List ℕ → Type 0} {b : Answer} {l : List ℕ}
+    → ((a : Answer) (after : List ℕ) → ((b ≡ a) × (l ≡ after)) ↔ Table a after) → (k : ℕ) (r : ReadAnswer) (after : List ℕ)
+    → ((r ≡ carrying b k) × (after ≡ l)) ↔ (Table (r .answer) after × (r ≡ carrying (r .answer) k))
+carries exactly k r after = (
+  λ p. (turned (exactly (r .answer) after) .0 (four (p .0), p .1), p .0 ∙ ap (λ (x : Answer). carrying x k) (sym (four (p .0)))),
+  λ t. let e = turned (exactly (r .answer) after) .1 (t .0) in (t .1 ∙ ap (λ (x : Answer). carrying x k) (e .0), e .1),
+)
+
+-- So the promises, by the names that the functions' `ensures` cite, are that table. Document 02: an accepted reading or conversion "carries
+-- a fifth number" beside its row's four, which "is 0 on a refusal".
+pub read-promised : (form : ℕ) (text words : List ℕ) (r : ReadAnswer) (after : List ℕ)
+    → ReadPromise form text words r after
+    ↔ (ReadTable form text words (r .answer) after × (r ≡ carrying (r .answer) (respelledIn form text)))
+read-promised form text words = carries (read-exactly form text words) (respelledIn form text)
 
 pub write-promised : (form : ℕ) (words text : List ℕ) (r : Answer) (after : List ℕ)
     → WritePromise form words text r after ↔ WriteTable form words text r after
 write-promised form words text r after = turned (write-exactly form words text r after)
 
-pub convert-promised : (source target : ℕ) (text out : List ℕ) (r : Answer) (after : List ℕ)
-    → ConvertPromise source target text out r after ↔ ConvertTable source target text out r after
-convert-promised source target text out r after = turned (convert-exactly source target text out r after)
+pub convert-promised : (source target : ℕ) (text out : List ℕ) (r : ReadAnswer) (after : List ℕ)
+    → ConvertPromise source target text out r after
+    ↔ (ConvertTable source target text out (r .answer) after × (r ≡ carrying (r .answer) (respelledIn source text)))
+convert-promised source target text out = carries (convert-exactly source target text out) (respelledIn source text)
 
-pub measure-promised : (form : ℕ) (text : List ℕ) (r : Answer)
-    → MeasurePromise form text r ↔ ((after : List ℕ) × ReadTable form text text r after)
-measure-promised form text r = (
-  λ p. (readWords form text text, measure-exactly form text r _ .0 (sym p, refl)),
-  λ t. sym (measure-exactly form text r (t .0) .1 (t .1) .0),
-)
+pub measure-promised : (form : ℕ) (text : List ℕ) (r : ReadAnswer)
+    → MeasurePromise form text r
+    ↔ (((after : List ℕ) × ReadTable form text text (r .answer) after) × (r ≡ carrying (r .answer) (respelledIn form text)))
+measure-promised form text r =
+    let by-table = carries (measure-exactly form text) (respelledIn form text) r in (
+      λ p. let t = by-table (readWords form text text) .0 (p, refl) in ((readWords form text text, t .0), t .1),
+      λ t. by-table (t .0 .0) .1 (t .0 .1, t .1) .0,
+    )
 
--- A lone read: its four numbers, and the words of the element. (Its promise says so of each result.)
-pub read-element-exactly : (form : ℕ) (text : List ℕ) (at : ℕ) (a : Answer) (words : List ℕ)
-    → ((stepAnswer (loneStep form text at) ≡ a) × (stepWords (loneStep form text at) ≡ words)) ↔ LoneTable form text at a words
+-- A lone read: its five numbers, and the words of the element. (Its promise says so of each result.)
+pub read-element-exactly : (form : ℕ) (text : List ℕ) (at : ℕ) (a : ReadAnswer) (words : List ℕ)
+    → ((stepReading (loneStep form text at) ≡ a) × (stepWords (loneStep form text at) ≡ words)) ↔ LoneTable form text at a words
 read-element-exactly = lone-exactly
+
+-- The same into words lent, with 9 where they do not fit.
+pub read-one-exactly : (form : ℕ) (text : List ℕ) (at : ℕ) (words : List ℕ) (a : ReadAnswer) (after : List ℕ)
+    → ((oneReading form text at (length words) ≡ a) × (oneWords form text at words ≡ after)) ↔ OneTable form text at words a after
+read-one-exactly = one-exactly
+
+pub read-one-promised : (form : ℕ) (text : List ℕ) (at : ℕ) (words : List ℕ) (r : ReadAnswer) (after : List ℕ)
+    → ReadOnePromise form text at words r after ↔ OneTable form text at words r after
+read-one-promised form text at words r after = turned (read-one-exactly form text at words r after)
 
 -- The number tells the row. Reading refuses with 1 to 8 alone, writing with 10 alone, converting with these.
 reading-low : (f : Form) (text : List ℕ) (r n p d : ℕ) → ReadingFault f text r n p d → (0 < r) × (r < 9)
@@ -240,26 +271,41 @@ convert-keeps source target text out =
 -- The four numbers of a lone read: "A lone read's refusal has element 0",
 pub read-element-refused : (form : ℕ) (f : Form) → formOf form ≡ Is f → (text : List ℕ) (at r d : ℕ) → length text ≤ limit
     → Refuses f (drop at text) r d → stepAnswer (loneStep form text at) ≡ answer r 0 at (at + d)
-read-element-refused form f q text at r d l h = lone-exactly form text at _ _ .1 (LoneTable.one-element q l (ElementRow.refused h)) .0
+read-element-refused form f q text at r d l h =
+    ap (λ (a : ReadAnswer). a .answer) (lone-exactly form text at _ _ .1 (LoneTable.one-element q l (ElementRow.refused h)) .0)
 
 -- and an element read comes with its words and the place after it.
 pub read-element-read : (form : ℕ) (f : Form) → formOf form ≡ Is f → (text : List ℕ) (at k : ℕ) (e : Element) → length text ≤ limit
     → Begins (Spells f) (drop at text) e k
     → (stepAnswer (loneStep form text at) ≡ answer 0 1 (at + k) (length (wordsOf e))) × (stepWords (loneStep form text at) ≡ wordsOf e)
-read-element-read form f q text at k e l b = lone-exactly form text at _ _ .1 (LoneTable.one-element q l (ElementRow.element b))
+read-element-read form f q text at k e l b = go (isCanonical f (b .front) e) refl
+  where
+    row : {a : ReadAnswer} → ElementRow f text at a (wordsOf e)
+        → (stepAnswer (loneStep form text at) ≡ a .answer) × (stepWords (loneStep form text at) ≡ wordsOf e)
+    row r =
+        let z = lone-exactly form text at _ _ .1 (LoneTable.one-element q l r) in
+        (ap (λ (x : ReadAnswer). x .answer) (z .0), z .1)
 
-row-low : {f : Form} {text : List ℕ} {at : ℕ} {a : Answer} {words : List ℕ} → ElementRow f text at a words → a .number < 9
+    go : (t : Bool) → isCanonical f (b .front) e ≡ t
+        → (stepAnswer (loneStep form text at) ≡ answer 0 1 (at + k) (length (wordsOf e))) × (stepWords (loneStep form text at) ≡ wordsOf e)
+    go true z = row (ElementRow.canonical b (says-canonical f (b .spells) z))
+    go false z =
+        row (ElementRow.otherwise b (λ c. let y : true ≡ false = sym (is-canonical f c) ∙ z in
+        let w : _≡_ {A = ℕ} 0 1 = cc in omega arith))
+
+row-low : {f : Form} {text : List ℕ} {at : ℕ} {a : ReadAnswer} {words : List ℕ} → ElementRow f text at a words → a .answer .number < 9
 row-low (ElementRow.none-left p) = omega arith
-row-low (ElementRow.element b) = omega arith
+row-low (ElementRow.canonical b c) = omega arith
+row-low (ElementRow.otherwise b n) = omega arith
 row-low {f} (ElementRow.refused h) = omega (arith, reading-number f h .1)
 
 pub read-element-11 : (form : ℕ) (text : List ℕ) (at : ℕ) → (stepAnswer (loneStep form text at) .number ≡ 11) ↔ NoForm form
 read-element-11 form text at = (
   forth (lone-exactly form text at _ _ .0 (refl, refl)),
-  λ n. ap (λ (a : Answer). a .number) (lone-exactly form text at _ _ .1 (LoneTable.no-form n) .0),
+  λ n. ap (λ (a : ReadAnswer). a .answer .number) (lone-exactly form text at _ _ .1 (LoneTable.no-form n) .0),
 )
   where
-    forth : {a : Answer} {words : List ℕ} → LoneTable form text at a words → a .number ≡ 11 → NoForm form
+    forth : {a : ReadAnswer} {words : List ℕ} → LoneTable form text at a words → a .answer .number ≡ 11 → NoForm form
     forth (LoneTable.no-form n) e = n
     forth (LoneTable.over-limit q l) e = absurd (omega arith)
     forth (LoneTable.one-element q l r) e = absurd (omega (arith, row-low r))
@@ -268,10 +314,10 @@ pub read-element-12 : (form : ℕ) (f : Form) → formOf form ≡ Is f → (text
     → (stepAnswer (loneStep form text at) .number ≡ 12) ↔ (limit < length text)
 read-element-12 form f q text at = (
   forth (lone-exactly form text at _ _ .0 (refl, refl)),
-  λ l. ap (λ (a : Answer). a .number) (lone-exactly form text at _ _ .1 (LoneTable.over-limit q l) .0),
+  λ l. ap (λ (a : ReadAnswer). a .answer .number) (lone-exactly form text at _ _ .1 (LoneTable.over-limit q l) .0),
 )
   where
-    forth : {a : Answer} {words : List ℕ} → LoneTable form text at a words → a .number ≡ 12 → limit < length text
+    forth : {a : ReadAnswer} {words : List ℕ} → LoneTable form text at a words → a .answer .number ≡ 12 → limit < length text
     forth (LoneTable.no-form n) e = absurd (omega arith)
     forth (LoneTable.over-limit q l) e = l
     forth (LoneTable.one-element q l r) e = absurd (omega (arith, row-low r))
@@ -292,12 +338,13 @@ pub one-answer : (form target at : ℕ) (text words out : List ℕ)
     → Once (MeasurePromise form text)
     × OnceBoth (ReadPromise form text words)
     × Once (ReadElementPromise form text at)
+    × OnceBoth (ReadOnePromise form text at words)
     × OnceBoth (WritePromise form words out)
     × OnceBoth (ConvertPromise form target text out)
 one-answer form target at text words out =
     let read = reading.one-answer form at text words in
     let write = writing.one-answer form target text words out in
-    (read .0, read .1, read .2, write .0, write .1)
+    (read .0, read .1, read .2, read .3, write .0, write .1)
 
 -- ======== Demand 2: what is accepted, and what it means; canonical spelling
 
@@ -678,26 +725,26 @@ known n h = go (formOf n) refl
     go Nothing q = absurd (h (none-exactly n .0 q))
 
 -- a text that was read, or refused with 1 to 8, is of a form;
-of-form : (form : ℕ) (text words : List ℕ) {r : Answer} {after : List ℕ} → ReadPromise form text words r after → r .number < 11
-    → (f : Form) × (formOf form ≡ Is f)
+of-form : (form : ℕ) (text words : List ℕ) {r : ReadAnswer} {after : List ℕ} → ReadPromise form text words r after
+    → r .answer .number < 11 → (f : Form) × (formOf form ≡ Is f)
 of-form form text words p z =
-    known form (λ n. omega (arith, z, read-11 form text words .1 n, ap (λ (a : Answer). a .number) (p .0)))
+    known form (λ n. omega (arith, z, read-11 form text words .1 n, ap (λ (a : Answer). a .number) (four (p .0))))
 
 -- a conversion that was accepted, or refused with 1 to 10, was between two
-between-forms : (source target : ℕ) (text out : List ℕ) {r : Answer} {after : List ℕ} → ConvertPromise source target text out r after
-    → r .number < 11 → ((f : Form) × (formOf source ≡ Is f)) × ((g : Form) × (formOf target ≡ Is g))
+between-forms : (source target : ℕ) (text out : List ℕ) {r : ReadAnswer} {after : List ℕ} → ConvertPromise source target text out r after
+    → r .answer .number < 11 → ((f : Form) × (formOf source ≡ Is f)) × ((g : Form) × (formOf target ≡ Is g))
 between-forms source target text out p z =
     let never : NoForm source ⊎ NoForm target → ⊥ =
-    λ n. omega (arith, z, convert-11 source target text out .1 n, ap (λ (a : Answer). a .number) (p .0)) in
+    λ n. omega (arith, z, convert-11 source target text out .1 n, ap (λ (a : Answer). a .number) (four (p .0))) in
     (known source (λ n. never (inl n)), known target (λ n. never (inr n)))
 
 -- a text that was read is a run of as many elements
-run-read : (form : ℕ) (f : Form) → formOf form ≡ Is f → (text words : List ℕ) {r : Answer} {after : List ℕ}
-    → ReadPromise form text words r after → r .number ≡ 0
-    → (es : List Element) × RunOf (Spells f) text es × (r .element ≡ length es) × (length text ≤ limit)
+run-read : (form : ℕ) (f : Form) → formOf form ≡ Is f → (text words : List ℕ) {r : ReadAnswer} {after : List ℕ}
+    → ReadPromise form text words r after → r .answer .number ≡ 0
+    → (es : List Element) × RunOf (Spells f) text es × (r .answer .element ≡ length es) × (length text ≤ limit)
 run-read form f q text words p z =
-    let t = read-tells form f q text words .is-0 (sym (ap (λ (a : Answer). a .number) (p .0)) ∙ z) in
-    (t .0, t .2, ap (λ (a : Answer). a .element) (p .0 ∙ t .4), t .1)
+    let t = read-tells form f q text words .is-0 (sym (ap (λ (a : Answer). a .number) (four (p .0))) ∙ z) in
+    (t .0, t .2, ap (λ (a : Answer). a .element) (four (p .0) ∙ t .4), t .1)
 
 -- what an accepted conversion tells: what the text means, and the octets that were written
 record Accepted (source target : ℕ) (f g : Form) (text out : List ℕ) (r : Answer) (after : List ℕ) : Type 0 where
@@ -706,56 +753,61 @@ record Accepted (source target : ℕ) (f g : Form) (text out : List ℕ) (r : An
   elements : r .element ≡ length (converted .meaning)
   count : r .count ≡ length (converted .octets)
 
-accepted-by : (source target : ℕ) (f g : Form) → formOf source ≡ Is f → formOf target ≡ Is g → (text out : List ℕ) {r : Answer}
-    {after : List ℕ} → ConvertPromise source target text out r after → r .number ≡ 0 → Accepted source target f g text out r after
+accepted-by : (source target : ℕ) (f g : Form) → formOf source ≡ Is f → formOf target ≡ Is g → (text out : List ℕ) {r : ReadAnswer}
+    {after : List ℕ} → ConvertPromise source target text out r after → r .answer .number ≡ 0
+    → Accepted source target f g text out (r .answer) after
 accepted-by source target f g is-source is-target text out {r} p z =
-    let c = converted-means source target f g is-source is-target text out (sym (ap (λ (a : Answer). a .number) (p .0)) ∙ z) in
-    let count : r .count ≡ length (c .octets) = ap (λ (a : Answer). a .count) (p .0 ∙ c .answers) in
+    let is = four (p .0) in
+    let c = converted-means source target f g is-source is-target text out (sym (ap (λ (a : Answer). a .number) is) ∙ z) in
+    let count : r .answer .count ≡ length (c .octets) = ap (λ (a : Answer). a .count) (is ∙ c .answers) in
     record {
       converted = c;
       wrote = ap₂ take count (p .1 ∙ c .writes) ∙ take-append-seam (c .octets) (drop (length (c .octets)) out);
-      elements = ap (λ (a : Answer). a .element) (p .0 ∙ c .answers);
+      elements = ap (λ (a : Answer). a .element) (is ∙ c .answers);
       count = count;
     }
 
 module _ (source target : ℕ) (s t : List ℕ) (within : length (s ++ t) ≤ limit) where
   -- Two texts that convert, joined, convert to the octets of each, joined, with room enough lent.
-  pub joined-converts : (out₁ out₂ out : List ℕ) {r₁ r₂ r : Answer} {a₁ a₂ after : List ℕ} → ConvertPromise source target s out₁ r₁ a₁
-      → r₁ .number ≡ 0 → ConvertPromise source target t out₂ r₂ a₂ → r₂ .number ≡ 0 → r₁ .count + r₂ .count ≤ length out
-      → ConvertPromise source target (s ++ t) out r after
-      → (r ≡ answer 0 (r₁ .element + r₂ .element) (length (s ++ t)) (r₁ .count + r₂ .count))
-      × (after ≡ over out (take (r₁ .count) a₁ ++ take (r₂ .count) a₂))
+  pub joined-converts : (out₁ out₂ out : List ℕ) {r₁ r₂ r : ReadAnswer} {a₁ a₂ after : List ℕ}
+      → ConvertPromise source target s out₁ r₁ a₁ → r₁ .answer .number ≡ 0 → ConvertPromise source target t out₂ r₂ a₂
+      → r₂ .answer .number ≡ 0 → r₁ .answer .count + r₂ .answer .count ≤ length out → ConvertPromise source target (s ++ t) out r after
+      → (r .answer
+      ≡ answer 0 (r₁ .answer .element + r₂ .answer .element) (length (s ++ t)) (r₁ .answer .count + r₂ .answer .count))
+      × (after ≡ over out (take (r₁ .answer .count) a₁ ++ take (r₂ .answer .count) a₂))
   joined-converts out₁ out₂ out {r₁} {r₂} p₁ z₁ p₂ z₂ room p =
       let b = between-forms source target s out₁ p₁ (omega arith) in
       let x = accepted-by source target (b .0 .0) (b .1 .0) (b .0 .1) (b .1 .1) s out₁ p₁ z₁ in
       let y = accepted-by source target (b .0 .0) (b .1 .0) (b .0 .1) (b .1 .1) t out₂ p₂ z₂ in
       let c = x .converted in
       let d = y .converted in
-      let size : length (c .octets ++ d .octets) ≡ r₁ .count + r₂ .count =
+      let size : length (c .octets ++ d .octets) ≡ r₁ .answer .count + r₂ .answer .count =
       length-append (c .octets) (d .octets) ∙ ap₂ _+_ (sym (x .count)) (sym (y .count)) in
       let e =
       joined-converted source target (b .0 .0) (b .1 .0) (b .0 .1) (b .1 .1) s t within (c .meaning) (d .meaning) (c .means) (d .means)
       (c .held) (c .octets) (c .canonical) (d .octets) out (d .held) (d .canonical) (omega (arith, size, room)) in
-      let number : length (c .meaning ++ d .meaning) ≡ r₁ .element + r₂ .element =
+      let number : length (c .meaning ++ d .meaning) ≡ r₁ .answer .element + r₂ .answer .element =
       length-append (c .meaning) (d .meaning) ∙ ap₂ _+_ (sym (x .elements)) (sym (y .elements)) in (
-        p .0 ∙ e .0 ∙ ap₂ (λ (n k : ℕ). answer 0 n (length (s ++ t)) k) number size,
+        four (p .0) ∙ e .0 ∙ ap₂ (λ (n k : ℕ). answer 0 n (length (s ++ t)) k) number size,
         p .1 ∙ e .1 ∙ ap (over out) (ap₂ _++_ (sym (x .wrote)) (sym (y .wrote))),
       )
 
   -- A conversion whose second text is refused with 1 to 8 is refused as by itself, element number, place and count moved up, whatever the
   -- target holds: the first text need only be read.
-  pub joined-convert-refused : (words out₂ out : List ℕ) {q a r : Answer} {w a₂ after : List ℕ} → ReadPromise source s words q w
-      → q .number ≡ 0 → ConvertPromise source target t out₂ a a₂ → 1 ≤ a .number → a .number ≤ 8
-      → ConvertPromise source target (s ++ t) out r after
-      → (r ≡ answer (a .number) (q .element + a .element) (length s + a .place) (length s + a .count)) × (after ≡ out)
-  joined-convert-refused words out₂ out {q} {a} pq z p₂ low high p =
+  pub joined-convert-refused : (words out₂ out : List ℕ) {q r₂ r : ReadAnswer} {w a₂ after : List ℕ} → ReadPromise source s words q w
+      → q .answer .number ≡ 0 → ConvertPromise source target t out₂ r₂ a₂ → 1 ≤ r₂ .answer .number → r₂ .answer .number ≤ 8
+      → ConvertPromise source target (s ++ t) out r after →
+      let a = r₂ .answer in
+      (r .answer ≡ answer (a .number) (q .answer .element + a .element) (length s + a .place) (length s + a .count)) × (after ≡ out)
+  joined-convert-refused words out₂ out {q} {r₂} pq z p₂ low high p =
+      let a : Answer = r₂ .answer in
       let b = between-forms source target t out₂ p₂ (omega arith) in
       let f = b .0 .0 in
       let g = b .1 .0 in
       let first = run-read source f (b .0 .1) s words pq z in
       let v =
       subst (λ (x : Answer). Tells same (RunOf (Respells f g) t) (ConvertingFault f g t) t out₂ x (convertText source target t out₂))
-      (sym (p₂ .0)) (convert-tells source target f g (b .0 .1) (b .1 .1) t out₂) .is-fault (omega arith) (omega arith)
+      (sym (four (p₂ .0))) (convert-tells source target f g (b .0 .1) (b .1 .1) t out₂) .is-fault (omega arith) (omega arith)
       (λ i. omega arith) in
       let e =
       outcomes.joined-refused (reads f) s t (first .0) (a .number) (a .element) (a .place) (v .0)
@@ -768,16 +820,16 @@ module _ (source target : ℕ) (s t : List ℕ) (within : length (s ++ t) ≤ li
       let moved : countOf (a .number) (length s + v .0) ≡ length s + a .count =
       sym (count-is-place (a .number) (length s + v .0) high)
       ∙ ap (λ (i : ℕ). length s + i) (count-is-place (a .number) (v .0) high ∙ sym (v .3)) in (
-        p .0 ∙ answered .0
+        four (p .0) ∙ answered .0
             ∙ ap₂ (λ (n c : ℕ). answer (a .number) (n + a .element) (length s + a .place) c) (sym (first .2)) moved,
         p .1 ∙ answered .1,
       )
 
 -- Two texts of one form that are read, joined, respell as the two respelt and joined, with room enough lent.
-pub joined-respelt : (form : ℕ) (s t words₁ words₂ : List ℕ) → length (s ++ t) ≤ limit → {q₁ q₂ : Answer} {w₁ w₂ : List ℕ}
-    → ReadPromise form s words₁ q₁ w₁ → q₁ .number ≡ 0 → ReadPromise form t words₂ q₂ w₂ → q₂ .number ≡ 0
-    → (u : List ℕ) × (v : List ℕ) × ConvertsTo form form s (q₁ .element) u × ConvertsTo form form t (q₂ .element) v
-    × ConvertsTo form form (s ++ t) (q₁ .element + q₂ .element) (u ++ v)
+pub joined-respelt : (form : ℕ) (s t words₁ words₂ : List ℕ) → length (s ++ t) ≤ limit → {q₁ q₂ : ReadAnswer} {w₁ w₂ : List ℕ}
+    → ReadPromise form s words₁ q₁ w₁ → q₁ .answer .number ≡ 0 → ReadPromise form t words₂ q₂ w₂ → q₂ .answer .number ≡ 0
+    → (u : List ℕ) × (v : List ℕ) × ConvertsTo form form s (q₁ .answer .element) u × ConvertsTo form form t (q₂ .answer .element) v
+    × ConvertsTo form form (s ++ t) (q₁ .answer .element + q₂ .answer .element) (u ++ v)
 joined-respelt form s t words₁ words₂ within p₁ z₁ p₂ z₂ =
     let f = of-form form s words₁ p₁ (omega arith) in
     let x = run-read form (f .0) (f .1) s words₁ p₁ z₁ in
@@ -790,11 +842,11 @@ joined-respelt form s t words₁ words₂ within p₁ z₁ p₂ z₂ =
       c .0,
       d .0,
       λ out r after h p. let e = c .2 out h in
-          (p .0 ∙ e .0 ∙ ap (λ (n : ℕ). answer 0 n (length s) (length (c .0))) (sym (x .2)), p .1 ∙ e .1),
+          (four (p .0) ∙ e .0 ∙ ap (λ (n : ℕ). answer 0 n (length s) (length (c .0))) (sym (x .2)), p .1 ∙ e .1),
       λ out r after h p. let e = d .2 out h in
-          (p .0 ∙ e .0 ∙ ap (λ (n : ℕ). answer 0 n (length t) (length (d .0))) (sym (y .2)), p .1 ∙ e .1),
+          (four (p .0) ∙ e .0 ∙ ap (λ (n : ℕ). answer 0 n (length t) (length (d .0))) (sym (y .2)), p .1 ∙ e .1),
       λ out r after h p. let e = both out (read-all-held (f .0) (y .1 .1)) (d .1) h in (
-        p .0 ∙ e .0 ∙ ap (λ (n : ℕ). answer 0 n (length (s ++ t)) (length (c .0 ++ d .0)))
+        four (p .0) ∙ e .0 ∙ ap (λ (n : ℕ). answer 0 n (length (s ++ t)) (length (c .0 ++ d .0)))
             (length-append (x .0) (y .0) ∙ ap₂ _+_ (sym (x .2)) (sym (y .2))),
         p .1 ∙ e .1,
       ),
@@ -812,19 +864,19 @@ module _ (source second third : ℕ) (text out last : List ℕ) where
       let b = convert-exactly second third s last _ _ .1 (Formed.of-form p (Formed.no-form n)) in
       rw (a .0, a .1, b .0, b .1) record { number = refl; element = refl; count = refl; octets = refl }
 
-  pub converts-again : {r r₁ r₂ : Answer} {after a₁ a₂ : List ℕ} → ConvertPromise source second text out r after → r .number ≡ 0
-      → length (take (r .count) after) ≤ limit → ConvertPromise source third text last r₁ a₁
-      → ConvertPromise second third (take (r .count) after) last r₂ a₂ → SameConversion r₁ r₂ a₁ a₂
+  pub converts-again : {r r₁ r₂ : ReadAnswer} {after a₁ a₂ : List ℕ} → ConvertPromise source second text out r after
+      → r .answer .number ≡ 0 → length (take (r .answer .count) after) ≤ limit → ConvertPromise source third text last r₁ a₁
+      → ConvertPromise second third (take (r .answer .count) after) last r₂ a₂ → SameConversion (r₁ .answer) (r₂ .answer) a₁ a₂
   converts-again {r} {after = after} p z l p₁ p₂ =
-      rw (p₁ .0, p₁ .1, p₂ .0, p₂ .1) (go (formOf third) refl)
+      rw (four (p₁ .0), p₁ .1, four (p₂ .0), p₂ .1) (go (formOf third) refl)
     where
       s : List ℕ
-      s = take (r .count) after
+      s = take (r .answer .count) after
 
       b : ((f : Form) × (formOf source ≡ Is f)) × ((g : Form) × (formOf second ≡ Is g))
       b = between-forms source second text out p (omega arith)
 
-      w : Accepted source second (b .0 .0) (b .1 .0) text out r after
+      w : Accepted source second (b .0 .0) (b .1 .0) text out (r .answer) after
       w = accepted-by source second (b .0 .0) (b .1 .0) (b .0 .1) (b .1 .1) text out p z
 
       go : (x : FormFound) → formOf third ≡ x
@@ -835,6 +887,54 @@ module _ (source second third : ℕ) (text out last : List ℕ) where
           (w .converted .within) l (w .converted .means)
           (subst (λ (u : List ℕ). RunOf (CanonicalElement (b .1 .0)) u (w .converted .meaning)) (sym (w .wrote)) (w .converted .canonical))
       go Nothing q = both-11 s (b .0 .0) (b .1 .0) (b .0 .1) (b .1 .1) (none-exactly third .0 q)
+
+-- ======== Document 02, No. 5: what a conversion carries
+
+-- the number that an accepted answer carries
+accepted-fifth : {r : ReadAnswer} (a : Answer) (k : ℕ) → r ≡ carrying a k → r .answer .number ≡ 0 → r .respelled ≡ k
+accepted-fifth a k e z =
+    ap (λ (x : ReadAnswer). x .respelled) e
+    ∙ ap (λ (t : Bool). pick t k 0) (eq-eqb (a .number) 0 (sym (ap (λ (x : Answer). x .number) (four e)) ∙ z))
+
+module _ (source target : ℕ) (text out : List ℕ) {r : ReadAnswer} {after : List ℕ} (p : ConvertPromise source target text out r after) where
+  -- An accepted conversion carries the number that reading its text with room enough carries: "elements not canonical in the source form".
+  pub convert-carries : r .answer .number ≡ 0 → (m : ReadAnswer) → MeasurePromise source text m → r .respelled ≡ m .respelled
+  convert-carries z m q =
+      let b = between-forms source target text out p (omega arith) in
+      let c = accepted-by source target (b .0 .0) (b .1 .0) (b .0 .1) (b .1 .1) text out p z .converted in
+      let read = accepts-exactly source (b .0 .0) (b .0 .1) text text .1 (c .meaning, c .within, c .means, words-fit (c .means .1)) in
+      accepted-fifth _ _ (p .0) z ∙ sym (accepted-fifth _ _ q (ap (λ (x : Answer). x .number) (four q) ∙ read))
+
+  -- It "is 0 on a refusal".
+  pub refused-carries-0 : (r .answer .number ≡ 0 → ⊥) → r .respelled ≡ 0
+  refused-carries-0 n =
+      ap (λ (x : ReadAnswer). x .respelled) (p .0)
+      ∙ ap (λ (t : Bool). pick t (respelledIn source text) 0) (ne-eqb _ 0 (λ z. n (ap (λ (x : Answer). x .number) (four (p .0)) ∙ z)))
+
+-- the number of a text behind one that is read
+respelled-joined : (form : ℕ) (f : Form) → formOf form ≡ Is f → (s t : List ℕ) (es : List Element) → RunOf (Spells f) s es
+    → respelledIn form (s ++ t) ≡ respelledIn form s + respelledIn form t
+unfolding respelledIn
+respelled-joined form f q s t es r =
+    let in-form : (u : List ℕ) → respelledBefore f u ≡ inForm (formOf form) 0 (λ g. respelledBefore g u) =
+    λ u. a-form (formOf form) f 0 (respelledBefore f u) (λ g. respelledBefore g u) q refl in
+    sym (in-form (s ++ t))
+    ∙ tally-joined (isCanonical f) (reads f) s t es (read-meets f s .runs es .1 r)
+    ∙ ap₂ _+_ (in-form s) (in-form t)
+
+-- "It adds up over joined texts": as `joined-converts`, of the fifth number.
+pub joined-carries : (source target : ℕ) (s t : List ℕ) → length (s ++ t) ≤ limit → (out₁ out₂ out : List ℕ) {r₁ r₂ r : ReadAnswer}
+    {a₁ a₂ after : List ℕ} → ConvertPromise source target s out₁ r₁ a₁ → r₁ .answer .number ≡ 0
+    → ConvertPromise source target t out₂ r₂ a₂ → r₂ .answer .number ≡ 0 → r₁ .answer .count + r₂ .answer .count ≤ length out
+    → ConvertPromise source target (s ++ t) out r after → r .respelled ≡ r₁ .respelled + r₂ .respelled
+joined-carries source target s t within out₁ out₂ out p₁ z₁ p₂ z₂ room p =
+    let z = ap (λ (x : Answer). x .number) (joined-converts source target s t within out₁ out₂ out p₁ z₁ p₂ z₂ room p .0) in
+    let b = between-forms source target s out₁ p₁ (omega arith) in
+    let f = b .0 .0 in
+    let c = accepted-by source target f (b .1 .0) (b .0 .1) (b .1 .1) s out₁ p₁ z₁ .converted in
+    accepted-fifth _ _ (p .0) z
+    ∙ respelled-joined source f (b .0 .1) s t (c .meaning) (c .means)
+    ∙ sym (ap₂ _+_ (accepted-fifth _ _ (p₁ .0) z₁) (accepted-fifth _ _ (p₂ .0) z₂))
 
 -- ======== "Sixteen readings to prove": all of them and only these, as one table under one claim, by computation
 

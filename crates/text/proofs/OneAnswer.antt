@@ -5,7 +5,7 @@ use mathlib.Core.List.{List}
 use lib.ListN.{length}
 use Rattle.run.specs.OneAnswer.{OnceBoth}
 use Rattle.run.proofs.OneAnswer.{once-both}
-use Rattle.text.specs.WriteAnswers.{writeAnswer, writeText, convertAnswer, convertText}
+use Rattle.text.specs.WriteAnswers.{writeAnswer, writeText, convertReading, convertText}
 use Rattle.text.specs.Promises.{WritePromise, ConvertPromise}
 
 pub one-answer : (form target : ℕ) (text words out : List ℕ)
@@ -13,6 +13,6 @@ pub one-answer : (form target : ℕ) (text words out : List ℕ)
     × OnceBoth (ConvertPromise form target text out)
 one-answer form target text words out = (
   once-both (WritePromise form words out) (writeAnswer form words (length out)) (writeText form words out) (λ r after p. p),
-  once-both (ConvertPromise form target text out) (convertAnswer form target text (length out)) (convertText form target text out)
+  once-both (ConvertPromise form target text out) (convertReading form target text (length out)) (convertText form target text out)
       (λ r after p. p),
 )

@@ -10,8 +10,9 @@ use Rattle.sorts.specs.declared.Form.{Form}
 use Rattle.element_words.specs.declared.Element.{Element}
 use Rattle.element_reading.specs.Grammar.{Spells}
 use Rattle.element_reading.proofs.Reader.{reads}
+use Rattle.element_reading.proofs.ReadBack.{read-held}
 use Rattle.element_spelling.specs.ElementOctets.{CanonicalElement, Held, spellElement}
-use Rattle.element_spelling.proofs.Writer.{Some, canonical-given, canonical-some, canonical-proper, spells-exactly, read-held}
+use Rattle.element_spelling.proofs.Writer.{Some, canonical-given, canonical-some, canonical-proper, spells-exactly}
 use Rattle.text.specs.Outcomes.{Respells, respellHead}
 
 module _ (f g : Form) where

@@ -8,6 +8,7 @@ use mathlib.Core.List.{List, [], _∷_}
 use lib.ListN.{length}
 use Rattle.run.specs.Grammar.{RunOf}
 use Rattle.run.specs.declared.Answer.{Answer}
+use Rattle.run.specs.declared.ReadAnswer.{ReadAnswer}
 use Rattle.run.specs.Answers.{answer, given, over}
 use Rattle.sorts.specs.declared.Form.{Form}
 use Rattle.element_words.specs.declared.Element.{Element}
@@ -43,11 +44,11 @@ pub record Converted (source target : ℕ) (f g : Form) (text out : List ℕ) : 
 -- wherever these octets have room, converting the text writes them, and answers 0, so many elements, the text's length and their number
 abbrev pub ConvertsTo : ℕ → ℕ → List ℕ → ℕ → List ℕ → Type 0
 ConvertsTo source target text elements octets =
-    (out : List ℕ) (r : Answer) (after : List ℕ) → length octets ≤ length out → ConvertPromise source target text out r after
-    → (r ≡ answer 0 elements (length text) (length octets)) × (after ≡ over out octets)
+    (out : List ℕ) (r : ReadAnswer) (after : List ℕ) → length octets ≤ length out → ConvertPromise source target text out r after
+    → (r .answer ≡ answer 0 elements (length text) (length octets)) × (after ≡ over out octets)
 
 -- two conversions into the same lent octets come to the same: the same octets, or the same number at the same element. (The place of that
--- element may differ, as each text spells the elements before it in its own form.)
+-- element may differ, as each text spells the elements before it in its own form; so may the fifth number, which is the source's.)
 pub record SameConversion (a b : Answer) (after after′ : List ℕ) : Type 0 where
   pub number : a .number ≡ b .number
   pub element : a .element ≡ b .element

@@ -1,13 +1,15 @@
 -- Proved equal to document 01's table of numbers and its order of refusals (WritingNumbers, by proofs/Demands: write-exactly,
--- convert-exactly): the answers of writing and of converting, and what the lent buffer holds after.
+-- convert-exactly): the answers of writing and of converting, and what the lent buffer holds after. A conversion's fifth number is the one
+-- that its text has in `text_reading`.
 -- Assumes nothing.
 use Prim.Native.Nat.{ℕ}
 use mathlib.Core.List.{List}
 use lib.ListN.{length}
 use Rattle.run.specs.declared.Answer.{Answer}
-use Rattle.run.specs.Answers.{bare, answerOf, writtenOf, same}
+use Rattle.run.specs.declared.ReadAnswer.{ReadAnswer}
+use Rattle.run.specs.Answers.{bare, carrying, answerOf, writtenOf, same}
 use Rattle.sorts.specs.Forms.{formOf, inForm}
-use Rattle.text_reading.specs.ReadAnswers.{within-limit}
+use Rattle.text_reading.specs.ReadAnswers.{within-limit, respelledIn}
 use Rattle.text.specs.Outcomes.{writeIn, convertIn}
 
 -- ---- writing: 11, 12, 10, 9
@@ -31,3 +33,7 @@ unfoldable pub convertText : ℕ → ℕ → List ℕ → List ℕ → List ℕ
 convertText source target text out =
     inForm (formOf source) out (λ f. inForm (formOf target) out
     (λ g. within-limit text out (writtenOf same out (convertIn f g text))))
+
+-- "An accepted .. conversion between forms carries a fifth number: elements not canonical in the source form"; a refusal 0
+abbrev pub convertReading : ℕ → ℕ → List ℕ → ℕ → ReadAnswer
+convertReading source target text room = carrying (convertAnswer source target text room) (respelledIn source text)

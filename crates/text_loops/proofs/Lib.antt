@@ -1,4 +1,5 @@
 pub mod FewWords
+pub mod Tallied
 pub mod Steps
 pub mod Fronts
 mod RunsAndPairs

@@ -1,22 +1,24 @@
 -- What is read by the lent tables is what the reader of elements reads: a run of spacing characters, and a pair.
 -- Assumes nothing.
 use Prim.Native.Nat.{ℕ, zero, suc, _+_, _-_, _≤_, _<_}
-use mathlib.Core.Path.{_≡_, refl, sym, ap, ap₂, _∙_, subst}
+use mathlib.Core.Path.{_≡_, refl, sym, ap, ap₂, _∙_, subst, subst₂}
 use mathlib.Core.Bool.{Bool, true, false}
 use mathlib.Core.List.{List, [], _∷_, _++_, map, append-nil, append-assoc}
 use native.Mathlib.Nat.{add-zero, le-of-suc-le-suc, not-suc-le-zero}
 use native.Mathlib.Omega.{arith}
 use lib.Dec.{ltb}
-use lib.ListN.{length, getD, set, drop, length-append, length-drop, length-map}
+use lib.ListN.{length, getD, set, take, drop, length-append, length-drop, length-map}
 use lib.Seq.{drop-cons}
 use borrow.Author.Tests.{lt-ltb, le-ltb, ltb-true}
 use Rattle.run.specs.Loops.{Passed, Counted, Filled}
 use Rattle.run.specs.Choice.{pick}
 use Rattle.run.specs.Head.{element}
 use Rattle.run.specs.Grammar.{Run, done, more}
+use Rattle.run.specs.Tagged.{Tagged, tagHead, untagged}
 use Rattle.run.specs.Answers.{given, roomFor}
 use Rattle.run.specs.Put.{Put}
 use Rattle.run.proofs.Answers.{given-length}
+use Rattle.run.proofs.Tags.{run-untagged}
 use Rattle.run.proofs.Loops.{turns, count-turn, fill-room, fill-rooms, fill-turn, fill-turns}
 use Rattle.run.proofs.Puts.{put-none, put-as, put-both, put-length, put-entry}
 use Rattle.squares.specs.Squares.{squareTable}
@@ -29,12 +31,15 @@ use Rattle.lent_tables.proofs.LentEntries.{graphic-code, pair-code}
 use Rattle.element_words.specs.declared.Element.{Element}
 use Rattle.element_words.specs.declared.Element.the-variants.{One}
 use Rattle.element_words.specs.Words.{wordsOf}
+use Rattle.element_spelling.specs.ElementOctets.{isCanonical}
 use Rattle.element_reading.specs.Grammar.{Spells}
-use Rattle.element_reading.specs.ElementHead.{headSort, headIn, pairHead, followerHead}
+use Rattle.element_reading.specs.ElementHead.{headSort, headIn, canonicalHead, pairHead, followerHead}
 use Rattle.element_reading.proofs.Reader.{reads}
 use Rattle.text_loops.specs.RunsAndPairs.{spacingWords, pairWord}
 use Rattle.text_loops.specs.Fronts.{readIn}
+use Rattle.text_loops.specs.LawWords.{HereStands, Tallied, CountedBoth}
 use Rattle.text_loops.proofs.FewWords.{few-words}
+use Rattle.text_loops.proofs.Tallied.{canonicalOne, written-canonical, listed-canonical, tally-turn, tally-turns}
 
 -- ---- counting and writing a run: what the loops know at the i-th octet
 
@@ -175,6 +180,12 @@ pair-here codes squares text at w x h e q =
 -- ---- what stands there is an element
 
 module _ (f : Form) where
+  -- a pair of a character that is not of ASCII is canonical
+  pair-told : (s : List ℕ) (x : ℕ) → x ≡ pairWord (codeTable f) squareTable s → 0x80 ≤ x → isCanonical f (take 2 s) (One x) ≡ true
+  pair-told [] x e n = absurd (omega (arith, e))
+  pair-told (o ∷ []) x e n = absurd (omega (arith, e))
+  pair-told (o ∷ (l ∷ s)) x e n = listed-canonical f o l x (pair-code f o l x (λ z. omega arith) e) n
+
   pair-head : (s : List ℕ) (x : ℕ) → x ≡ pairWord (codeTable f) squareTable s → (x ≡ 0 → ⊥) → headIn f s ≡ element (One x) 2
   unfolding headIn followerHead
   pair-head [] x e n = absurd (n e)
@@ -183,7 +194,7 @@ module _ (f : Form) where
       let p = pair-code f o l x n e in
       ap (λ (k : Sort). headSort f k o (l ∷ s)) (p .sorts) ∙ ap (λ (y : Found). pairHead false 1 y (sortIn f l)) (p .square)
 
-  -- ---- a run of spacing characters is a run of elements, each of one octet
+  -- ---- a run of spacing characters is a run of elements, each of one octet, which is its canonical spelling
 
   record Spaced (s ws : List ℕ) : Type 0 where
     pub front : List ℕ
@@ -191,10 +202,18 @@ module _ (f : Form) where
     pub pieces : List (List ℕ)
     pub whole : s ≡ front ++ rest
     pub size : length front ≡ length ws
-    pub run : Run (Spells f) front pieces (map One ws)
+    pub told : Run (Tagged (isCanonical f) (Spells f)) front pieces (map canonicalOne ws)
 
   none-spaced : (s : List ℕ) → Spaced s []
-  none-spaced s = record { front = []; rest = s; pieces = []; whole = refl; size = refl; run = done }
+  none-spaced s = record { front = []; rest = s; pieces = []; whole = refl; size = refl; told = done }
+
+  -- without what is told of it
+  ones : (ws : List ℕ) → map untagged (map canonicalOne ws) ≡ map One ws
+  ones [] = refl
+  ones (w ∷ ws) = ap (λ (l : List Element). One w ∷ l) (ones ws)
+
+  plain-run : {s ws : List ℕ} (r : Spaced s ws) → Run (Spells f) (r .front) (r .pieces) (map One ws)
+  plain-run {ws = ws} r = subst (Run (Spells f) (r .front) (r .pieces)) (ones ws) (run-untagged (isCanonical f) (r .told))
 
   abbrev words : ℕ → List ℕ → List ℕ
   words k s = spacingWords (codeTable f) k s
@@ -210,7 +229,9 @@ module _ (f : Form) where
         pieces = (o ∷ []) ∷ next .pieces;
         whole = ap (λ (l : List ℕ). o ∷ l) (next .whole);
         size = ap suc (next .size);
-        run = more (Spells.graphic (graphic-code f o (ltb-true w noCharacter t))) (next .run);
+        told =
+            let is = graphic-code f o (ltb-true w noCharacter t) in
+            more (Spells.graphic (is .sorts), sym (written-canonical f o w is)) (next .told);
       }
   spaced-test k o s false t next = none-spaced (o ∷ s)
 
@@ -241,13 +262,13 @@ module _ (f : Form) (text codes : List ℕ) (squares : List (List ℕ)) (tables 
       pair-head f (drop at text) x (e ∙ ap₂ (λ (t : List ℕ) (u : List (List ℕ)). pairWord t u (drop at text)) (tables .0) (tables .1)) n
 
   -- measuring
-  pub behind-run : {at n count : ℕ} (k : ℕ) → Counted (headIn f) wordsOf 34 text at n count → k ≡ length (run at)
+  counted-run : {at n count : ℕ} (k : ℕ) → Counted (headIn f) wordsOf 34 text at n count → k ≡ length (run at)
       → Counted (headIn f) wordsOf 34 text (at + k) (n + k) (count + k)
-  behind-run {at} {n} {count} k was e =
+  counted-run {at} {n} {count} k was e =
       let r = run-there at in
       let ones : List Element = map One (run at) in
       let many : length ones ≡ length (run at) = length-map (run at) One in
-      let on = turns (reads f) (few-words f) text (was .passed) (r .rest) (r .whole) (r .run) in
+      let on = turns (reads f) (few-words f) text (was .passed) (r .rest) (r .whole) (plain-run f r) in
       record {
         es = was .es ++ ones;
         passed = subst (λ (j : ℕ). Passed (headIn f) wordsOf 34 text (at + j) (was .es ++ ones)) (r .size ∙ sym e) on;
@@ -255,9 +276,37 @@ module _ (f : Form) (text codes : List ℕ) (squares : List (List ℕ)) (tables 
         counted = omega (arith, was .counted, given-length wordsOf (was .es) ones, ap length (given-ones (run at)));
       }
 
-  pub behind-pair : {at n count : ℕ} (x : ℕ) → Counted (headIn f) wordsOf 34 text at n count → x ≡ pairWord codes squares (drop at text)
-      → (x ≡ 0 → ⊥) → Counted (headIn f) wordsOf 34 text (at + 2) (n + 1) (count + 1)
-  behind-pair {at} x was e z = count-turn (reads f) (few-words f) text was (pair-of at x e z) refl refl
+  pub behind-run : {at n count respelled : ℕ} (k : ℕ) → CountedBoth f text at n count respelled → k ≡ length (run at)
+      → CountedBoth f text (at + k) (n + k) (count + k) respelled
+  behind-run {at} {n} {count} {respelled} k was e =
+      let r = run-there at in
+      record {
+        counted = counted-run k (was .counted) e;
+        tallied =
+            subst₂ (λ (i j : ℕ). Tallied f text (at + i) (n + j) respelled) (r .size ∙ sym e) (sym e)
+            (tally-turns f text (was .tallied) (r .rest) (run at) (r .whole) (r .told));
+      }
+
+  pair-there : (at x : ℕ) → x ≡ pairWord codes squares (drop at text) → 0x80 ≤ x
+      → HereStands (canonicalHead f (drop at text)) at (One x, true) (at + 2)
+  pair-there at x e h =
+      let q = e ∙ ap₂ (λ (t : List ℕ) (u : List (List ℕ)). pairWord t u (drop at text)) (tables .0) (tables .1) in
+      record {
+        size = 2;
+        here =
+            ap (tagHead (isCanonical f) (drop at text)) (pair-of at x e (λ z. omega arith))
+            ∙ ap (λ (b : Bool). element (One x, b) 2) (pair-told f (drop at text) x q h);
+        onward = refl;
+      }
+
+  pub behind-pair : {at n count respelled : ℕ} (x : ℕ) → CountedBoth f text at n count respelled
+      → x ≡ pairWord codes squares (drop at text) → 0x80 ≤ x → CountedBoth f text (at + 2) (n + 1) (count + 1) respelled
+  behind-pair {at} {n} {respelled = respelled} x was e z =
+      record {
+        counted = count-turn (reads f) (few-words f) text (was .counted) (pair-of at x e (λ q. omega arith)) refl refl;
+        tallied =
+            subst (Tallied f text (at + 2) (n + 1)) (add-zero respelled) (tally-turn f text (was .tallied) (pair-there at x e z) refl);
+      }
 
   -- filling
   module _ (l₀ : List ℕ) (room : roomFor wordsOf (length l₀) (readIn f text)) {at o : ℕ} {l : List ℕ}
@@ -265,14 +314,16 @@ module _ (f : Form) (text codes : List ℕ) (squares : List (List ℕ)) (tables 
     pub room-for-run : o + length (run at) ≤ length l
     room-for-run =
         let r = run-there at in
-        omega (arith, fill-rooms (reads f) (few-words f) text l₀ room was (r .rest) (r .whole) (r .run), ap length (given-ones (run at)))
+        let rooms = fill-rooms (reads f) (few-words f) text l₀ room was (r .rest) (r .whole) (plain-run f r) in
+        omega (arith, rooms, ap length (given-ones (run at)))
 
     pub filled-run : (k : ℕ) (l′ : List ℕ) → (k ≡ length (run at)) × Put l o (run at) l′ (o + k)
         → Filled (headIn f) wordsOf 34 text l₀ (at + k) (o + k) l′
     filled-run k l′ p =
         let r = run-there at in
         subst (λ (j : ℕ). Filled (headIn f) wordsOf 34 text l₀ (at + j) (o + k) l′) (r .size ∙ sym (p .0))
-        (fill-turns (reads f) (few-words f) text l₀ room was (r .rest) (r .whole) (r .run) (put-as (sym (given-ones (run at))) (p .1)))
+        (fill-turns (reads f) (few-words f) text l₀ room was (r .rest) (r .whole) (plain-run f r)
+        (put-as (sym (given-ones (run at))) (p .1)))
 
     module _ (x : ℕ) (e : x ≡ pairWord codes squares (drop at text)) (z : x ≡ 0 → ⊥) where
       pub room-for-pair : o < length l

@@ -3,14 +3,16 @@
 use Prim.Native.Nat.{ℕ, _+_, _≤_, _<_}
 use mathlib.Core.Path.{_≡_, refl, sym, ap, ap₂, _∙_, subst}
 use mathlib.Core.Logic.{⊎-elim}
+use mathlib.Core.Bool.{Bool}
 use mathlib.Core.List.{List, [], _∷_}
 use native.Mathlib.Omega.{arith}
-use lib.ListN.{length, drop, getD, length-drop}
+use lib.ListN.{length, take, drop, getD, length-drop}
 use borrow.Author.Tests.{le-leb}
 use types.Run.{OneOf}
 use denote.Enum.Declared.{tagOf}
-use Rattle.run.specs.Loops.{Counted, Filled, Taken}
+use Rattle.run.specs.Loops.{Filled}
 use Rattle.run.specs.Head.{Head, element, refused, none}
+use Rattle.run.specs.Tagged.{tagHead}
 use Rattle.run.specs.declared.Answer.{Answer}
 use Rattle.run.specs.Answers.{answer, countOf, roomFor}
 use Rattle.run.proofs.FromPlace.{at-place}
@@ -27,25 +29,30 @@ use Rattle.element_words.specs.declared.Element.the-variants.{One}
 use Rattle.element_reading.specs.declared.Step.{Step}
 use Rattle.element_reading.specs.declared.Step.the-variants.{Element as Read, Refused as Stopped, End}
 use Rattle.element_words.specs.Words.{wordsOf}
-use Rattle.element_reading.specs.ElementHead.{headIn, headSort, stepOf, stepAt}
+use Rattle.element_spelling.specs.ElementOctets.{isCanonical}
+use Rattle.canonical_tests.specs.Tests.{wordCanonical}
+use Rattle.canonical_tests.proofs.TestsRight.{alone-test}
+use Rattle.element_reading.specs.ElementHead.{headIn, canonicalHead, headSort, stepOf, stepAt}
 use Rattle.element_reading.proofs.Reader.{reads, refuses-exactly-by}
 use Rattle.element_reading.proofs.Places.{reading-number}
 use Rattle.text_loops.specs.declared.Measured.{Measured}
 use Rattle.text_loops.specs.Fronts.{readIn, measured, stepAnswerAfter, ReadInto}
-use Rattle.text_loops.specs.LawWords.{HereStands, RefusedStep}
+use Rattle.text_loops.specs.LawWords.{HereStands, RefusedStep, CountedBoth, TakenBoth}
 use Rattle.text_loops.proofs.FewWords.{few-words, counted-fits}
+use Rattle.text_loops.proofs.Tallied.{tally-stop, tally-end}
 
 -- ---- a step that is an element
 
-here-by : (h : Head Element) (at : ℕ) (e : Element) (next : ℕ) → stepOf at h ≡ Read e next → HereStands h at e next
-here-by (element e₀ k) at e next q = record { size = k; here = cc; onward = cc }
-here-by (refused r d) at e next q = let w : _≡_ {A = ℕ} 0 1 = cc in absurd (omega arith)
-here-by none at e next q = let w : _≡_ {A = ℕ} 0 1 = cc in absurd (omega arith)
+here-by : (tag : List ℕ → Element → Bool) (s : List ℕ) (h : Head Element) (at : ℕ) (e : Element) (next : ℕ) (b : Bool)
+    → stepOf at (tagHead tag s h) ≡ Read e next b → HereStands h at e next
+here-by tag s (element e₀ k) at e next b q = record { size = k; here = cc; onward = cc }
+here-by tag s (refused r d) at e next b q = let w : _≡_ {A = ℕ} 0 1 = cc in absurd (omega arith)
+here-by tag s none at e next b q = let w : _≡_ {A = ℕ} 0 1 = cc in absurd (omega arith)
 
-pub here : (f : Form) (text : List ℕ) (at : ℕ) (e : Element) (next : ℕ) → stepAt f text at ≡ Read e next
+pub here : (f : Form) (text : List ℕ) (at : ℕ) (e : Element) (next : ℕ) (b : Bool) → stepAt f text at ≡ Read e next b
     → HereStands (headIn f (drop at text)) at e next
 unfolding stepAt
-here f text at e next q = here-by (headIn f (drop at text)) at e next q
+here f text at e next b q = here-by (isCanonical f) (drop at text) (headIn f (drop at text)) at e next b q
 
 -- an octet that is a spacing character by itself is an element
 pub graphic-here : (f : Form) (text : List ℕ) (at : ℕ) (c : ℕ) → at < length text → Graphic c ≡ sortIn f (getD text at 0)
@@ -60,20 +67,40 @@ graphic-here f text at c h q =
       onward = refl;
     }
 
+-- and so is told of it
+pub graphic-told : (f : Form) (text : List ℕ) (at : ℕ) (c : ℕ) (b : Bool) → at < length text → Graphic c ≡ sortIn f (getD text at 0)
+    → b ≡ wordCanonical f c (getD text at 0) 1 → HereStands (canonicalHead f (drop at text)) at (One c, b) (at + 1)
+unfolding graphic-here
+graphic-told f text at c b h q z =
+    let o = getD text at 0 in
+    let piece : take 1 (drop at text) ≡ o ∷ [] = ap (take 1) (at-place text at h) in
+    record {
+      size = 1;
+      here =
+          ap (tagHead (isCanonical f) (drop at text)) (graphic-here f text at c h q .here)
+          ∙ ap (λ (t : Bool). element (One c, t) 1)
+          (ap (λ (p : List ℕ). isCanonical f p (One c)) piece ∙ sym (alone-test f o c (sym q)) ∙ sym z);
+      onward = refl;
+    }
+
 -- ---- one that is none: at the place of a text that is not at its end, a refusal of reading
 
 pub count-is-place : (r d : ℕ) → r ≤ 8 → d ≡ countOf r d
 count-is-place r d h = sym (rw (le-leb r 8 h))
 
 module _ (f : Form) (text : List ℕ) (at : ℕ) where
-  not-read : (x : Step) → OneOf (1 ∷ 2 ∷ []) (tagOf the-type x) → (e : Element) (k : ℕ) → x ≡ Read e k → ⊥
-  not-read (Read e₀ k₀) o e k q = ⊎-elim (λ z. omega arith) (λ z. omega arith) o
-  not-read (Stopped r p d) o e k q = let w : _≡_ {A = ℕ} 0 1 = cc in omega arith
-  not-read End o e k q = let w : _≡_ {A = ℕ} 0 1 = cc in omega arith
+  not-read : (x : Step) → OneOf (1 ∷ 2 ∷ []) (tagOf the-type x) → (e : Element) (k : ℕ) (b : Bool) → x ≡ Read e k b → ⊥
+  not-read (Read e₀ k₀ b₀) o e k b q = ⊎-elim (λ z. omega arith) (λ z. omega arith) o
+  not-read (Stopped r p d) o e k b q = let w : _≡_ {A = ℕ} 0 1 = cc in omega arith
+  not-read End o e k b q = let w : _≡_ {A = ℕ} 0 1 = cc in omega arith
 
-  refuses-by : (h : Head Element) → headIn f (drop at text) ≡ h → ((e : Element) (k : ℕ) → stepOf at h ≡ Read e k → ⊥) → at < length text
-      → RefusedStep f text at (stepOf at h)
-  refuses-by (element e k) q u l = absurd (u e (at + k) refl)
+  -- the answer, by what stands at the head
+  abbrev step : Head Element → Step
+  step h = stepOf at (tagHead (isCanonical f) (drop at text) h)
+
+  refuses-by : (h : Head Element) → headIn f (drop at text) ≡ h → ((e : Element) (k : ℕ) (b : Bool) → step h ≡ Read e k b → ⊥)
+      → at < length text → RefusedStep f text at (step h)
+  refuses-by (element e k) q u l = absurd (u e (at + k) (isCanonical f (take k (drop at text)) e) refl)
   refuses-by (refused r d) q u l =
       record {
         number = r;
@@ -86,43 +113,50 @@ module _ (f : Form) (text : List ℕ) (at : ℕ) where
   pub step-refused : (x : Step) → x ≡ stepAt f text at → OneOf (1 ∷ 2 ∷ []) (tagOf the-type x) → at < length text → RefusedStep f text at x
   unfolding stepAt
   step-refused x q o l =
-      subst (RefusedStep f text at) (sym q) (refuses-by (headIn f (drop at text)) refl (λ e k z. not-read x o e k (q ∙ z)) l)
+      subst (RefusedStep f text at) (sym q) (refuses-by (headIn f (drop at text)) refl (λ e k b z. not-read x o e k b (q ∙ z)) l)
 
 -- ---- the ways out of the loops over a text
 
--- an answer, and so many words
-abbrev measuredAs : Answer → ℕ → Measured
-measuredAs a n = record { answer = a; words = n }
+-- an answer, so many words, and so many elements that were not canonical
+abbrev measuredAs : Answer → ℕ → ℕ → Measured
+measuredAs a n k = record { answer = a; words = n; respelled = k }
+
+measured-as : {a b : Answer} {n m k j : ℕ} → a ≡ b → n ≡ m → k ≡ j → measuredAs a n k ≡ measuredAs b m j
+measured-as {b = b} {n} {k = k} p q r = ap (λ (x : Answer). measuredAs x n k) p ∙ ap₂ (measuredAs b) q r
 
 module _ (f : Form) (text : List ℕ) where
-  pub read-stop : {at n count : ℕ} {a : Answer} (x : Step) → Counted (headIn f) wordsOf 34 text at n count → x ≡ stepAt f text at
-      → OneOf (1 ∷ 2 ∷ []) (tagOf the-type x) → at < length text → a ≡ stepAnswerAfter n x → measuredAs a count ≡ measured f text
+  pub read-stop : {at n count k : ℕ} {a : Answer} (x : Step) → CountedBoth f text at n count k → x ≡ stepAt f text at
+      → OneOf (1 ∷ 2 ∷ []) (tagOf the-type x) → at < length text → a ≡ stepAnswerAfter n x → measuredAs a count k ≡ measured f text
   read-stop {at} {n} x was q o l e =
       let h = step-refused f text at x q o l in
-      ap₂ measuredAs (e ∙ h .answers n ∙ count-stop (reads f) (few-words f) text was (h .here) refl)
-      (counted-stop (reads f) (few-words f) text was (h .here))
+      measured-as (e ∙ h .answers n ∙ count-stop (reads f) (few-words f) text (was .counted) (h .here) refl)
+      (counted-stop (reads f) (few-words f) text (was .counted) (h .here)) (tally-stop f text (was .tallied) (h .here))
 
-  pub read-end : {at n count : ℕ} → Counted (headIn f) wordsOf 34 text at n count → length text ≤ at
-      → measuredAs (answer 0 n at count) count ≡ measured f text
+  pub read-end : {at n count k : ℕ} → CountedBoth f text at n count k → length text ≤ at
+      → measuredAs (answer 0 n at count) count k ≡ measured f text
   read-end was h =
-      ap₂ measuredAs (count-end (reads f) (few-words f) text was h) (counted-end (reads f) (few-words f) text was h)
+      measured-as (count-end (reads f) (few-words f) text (was .counted) h) (counted-end (reads f) (few-words f) text (was .counted) h)
+      (tally-end f text (was .tallied) h)
 
   -- the same of a loop that puts each element's words as it goes: what has room for a word of each octet has room for them
-  module _ {into l : List ℕ} {at n o : ℕ} (was : Taken (headIn f) wordsOf 34 text into at n o l) where
+  module _ {into l : List ℕ} {at n o k : ℕ} (was : TakenBoth f text into at n o k l) where
+    both : CountedBoth f text at n o k
+    both = record { counted = was .taken .counted; tallied = was .tallied }
+
     pub into-room : {e : Element} {next : ℕ} → length text ≤ length into → HereStands (headIn f (drop at text)) at e next
         → o + length (wordsOf e) ≤ length l
     into-room h x =
-        let behind = count-turn (reads f) (few-words f) text (was .counted) (x .here) (x .onward) refl in
-        omega (arith, counted-fits f text behind, put-length (was .put))
+        let behind = count-turn (reads f) (few-words f) text (was .taken .counted) (x .here) (x .onward) refl in
+        omega (arith, counted-fits f text behind, put-length (was .taken .put))
 
     pub into-stop : {a : Answer} (x : Step) → x ≡ stepAt f text at → OneOf (1 ∷ 2 ∷ []) (tagOf the-type x) → at < length text
-        → a ≡ stepAnswerAfter n x → ReadInto f text into (measuredAs a o) l
+        → a ≡ stepAnswerAfter n x → ReadInto f text into (measuredAs a o k) l
     into-stop x q i h e =
         let r = step-refused f text at x q i h in
-        record { measures = read-stop x (was .counted) q i h e; puts = taken-stop (reads f) (few-words f) text was (r .here) }
+        record { measures = read-stop x both q i h e; puts = taken-stop (reads f) (few-words f) text (was .taken) (r .here) }
 
-    pub into-end : length text ≤ at → ReadInto f text into (measuredAs (answer 0 n at o) o) l
-    into-end h = record { measures = read-end (was .counted) h; puts = taken-end (reads f) (few-words f) text was h }
+    pub into-end : length text ≤ at → ReadInto f text into (measuredAs (answer 0 n at o) o k) l
+    into-end h = record { measures = read-end both h; puts = taken-end (reads f) (few-words f) text (was .taken) h }
 
   -- an accepted text has an element at each place before its end
   pub read-never : (words : List ℕ) (room : roomFor wordsOf (length words) (readIn f text)) {at o : ℕ} {l : List ℕ} (x : Step)

@@ -1,6 +1,6 @@
 -- Proved equal to the runs and refusals of the grammar: what is read of a text up to its end or its first fault (`readIn`: text_reading,
--- proofs/ReadTexts, accepted-exactly and refused-exactly; `elementsBefore`: run, proofs/Before, before-accepted and before-refused). Below,
--- where it is said, parts of the code.
+-- proofs/ReadTexts, accepted-exactly and refused-exactly; `elementsBefore`: run, proofs/Before, before-accepted and before-refused;
+-- `respelledBefore`: text_reading, proofs/Respelled, respelled-exactly). Below, where it is said, parts of the code.
 -- Assumes nothing.
 use Prim.Native.Nat.{ℕ, _+_}
 use mathlib.Core.Path.{_≡_}
@@ -11,12 +11,14 @@ use lib.ListN.{length}
 use Rattle.run.specs.Choice.{pick}
 use Rattle.run.specs.Head.{Outcome, accepted, refusal, outcome}
 use Rattle.run.specs.Before.{whats, before}
+use Rattle.run.specs.Tally.{tallyOf}
 use Rattle.run.specs.declared.Answer.{Answer}
 use Rattle.run.specs.Answers.{answer, given, roomyAnswer}
 use Rattle.run.specs.Put.{Put}
 use Rattle.sorts.specs.declared.Form.{Form}
 use Rattle.element_words.specs.declared.Element.{Element}
 use Rattle.element_words.specs.Words.{wordsOf}
+use Rattle.element_spelling.specs.ElementOctets.{isCanonical}
 use Rattle.element_reading.specs.declared.Step.{Step}
 use Rattle.element_reading.specs.ElementHead.{headIn}
 use Rattle.element_reading.specs.ElementNumbers.{stepAnswer}
@@ -33,9 +35,19 @@ elementsBefore f text = whats (before (headIn f) text)
 abbrev pub wordsBefore : Form → List ℕ → List ℕ
 wordsBefore f text = given wordsOf (elementsBefore f text)
 
--- what measuring a text answers: as with room enough, and how many words stand before its end or its first fault
+-- how many of them did not stand in their canonical spelling
+abbrev pub respelledBefore : Form → List ℕ → ℕ
+respelledBefore f text = tallyOf (isCanonical f) (headIn f) text
+
+-- what measuring a text answers: as with room enough; how many words stand before its end or its first fault; and how many elements that
+-- were not canonical
 abbrev pub measured : Form → List ℕ → Measured
-measured f text = record { answer = roomyAnswer wordsOf (length text) (readIn f text); words = length (wordsBefore f text) }
+measured f text =
+    record {
+      answer = roomyAnswer wordsOf (length text) (readIn f text);
+      words = length (wordsBefore f text);
+      respelled = respelledBefore f text;
+    }
 
 -- what is asked for of a text's words: where only a whole text is wanted, nothing of one that is refused
 abbrev pub askedFor : Bool → Outcome Element → List ℕ → List ℕ

@@ -17,7 +17,7 @@ use Rattle.text_loops.specs.Fronts.{readIn, wordsBefore, measured, asked
 abbrev pub StepAnswerPromise : Step → ℕ → Answer → Type 0
 StepAnswerPromise step n r = r ≡ stepAnswerAfter n step
 
--- how far a text is read, and how many words its elements up to there have
+-- how far a text is read, how many words its elements up to there have, and how many of these are not canonical
 abbrev pub MeasureFrontPromise : Form → List ℕ → Measured → Type 0
 MeasureFrontPromise form text r = r ≡ measured form text
 

@@ -21,17 +21,23 @@ pub struct Measured {
     pub answer: Answer,
     // how many words the elements up to there have
     pub words: usize,
+    // how many of these elements did not stand in their canonical spelling
+    pub respelled: usize,
 }
 
 // A text of fewer octets is read without tables: making them would cost more than reading it.
 const SHORT: usize = 12;
+
+// From here on no form has an octet for the character of a pair: the pair is its canonical spelling. Below stands what no pair spells, and
+// the characters of ASCII, which are read as elements.
+const PAIRS_FROM: u32 = 0x80;
 
 // 01: "the text reader puts its own count there": a step's answer, after n elements.
 pub fn step_answer(step: Step, n: usize) -> Answer
     ensures { λ r. ⌜ StepAnswerPromise step n r ⌝ }
 {
     match step {
-        Step::Element(e, next) => Answer {
+        Step::Element(e, next, _) => Answer {
             number: 0,
             element: n,
             place: next,
@@ -146,6 +152,7 @@ fn measure_by_tables(
     let mut at = 0;
     let mut n = 0;
     let mut count = 0;
+    let mut respelled = 0;
     while at < text.len() {
         let k = spacing_run(codes, text, at);
         at += k;
@@ -154,22 +161,24 @@ fn measure_by_tables(
         if k < 16 {
             if at < text.len() {
                 let x = pair_at(codes, squares, text, at);
-                if x != 0 {
+                if PAIRS_FROM <= x {
                     at += 2;
                     n += 1;
                     count += 1;
                 } else {
                     let step = element_reading::element_at(form, text, at);
-                    let Step::Element(e, next) = step else {
+                    let Step::Element(e, next, canonical) = step else {
                         let answer = step_answer(step, n);
                         return Measured {
                             answer,
                             words: count,
+                            respelled,
                         };
                     };
                     at = next;
                     n += 1;
                     count += element_words::words_in(e);
+                    respelled += canonical_tests::not_canonical(canonical);
                 }
             }
         }
@@ -183,6 +192,7 @@ fn measure_by_tables(
     Measured {
         answer,
         words: count,
+        respelled,
     }
 }
 
@@ -213,7 +223,7 @@ fn fill_by_tables(
                     o += 1;
                 } else {
                     let step = element_reading::element_at(form, text, at);
-                    let Step::Element(e, next) = step else {
+                    let Step::Element(e, next, _) = step else {
                         return;
                     };
                     o = element_words::put_words(e, words, o);
@@ -233,25 +243,31 @@ fn read_by_elements(form: Form, text: &[u8], into: &mut [u32]) -> Measured
     let mut at = 0;
     let mut elements = 0;
     let mut filled = 0;
+    let mut respelled = 0;
     while at < text.len() {
-        let sort = sorts::sort_in(form, text[at]);
+        let o = text[at];
+        let sort = sorts::sort_in(form, o);
         if let Sort::Graphic(c) = sort {
             into[filled] = c;
             filled += 1;
             at += 1;
             elements += 1;
+            let canonical = canonical_tests::word_is_canonical(form, c, o, 1);
+            respelled += canonical_tests::not_canonical(canonical);
         } else {
             let step = element_reading::element_at(form, text, at);
-            let Step::Element(e, next) = step else {
+            let Step::Element(e, next, canonical) = step else {
                 let answer = step_answer(step, elements);
                 return Measured {
                     answer,
                     words: filled,
+                    respelled,
                 };
             };
             filled = element_words::put_words(e, into, filled);
             at = next;
             elements += 1;
+            respelled += canonical_tests::not_canonical(canonical);
         }
     }
     let answer = Answer {
@@ -263,6 +279,7 @@ fn read_by_elements(form: Form, text: &[u8], into: &mut [u32]) -> Measured
     Measured {
         answer,
         words: filled,
+        respelled,
     }
 }
 

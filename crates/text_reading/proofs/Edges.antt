@@ -1,12 +1,14 @@
--- At the public edge: the form's number, and the limit.
+-- At the public edge: the form's number, the limit, and the fifth number.
 -- Assumes nothing.
 use Prim.Native.Nat.{ℕ, _≤_, _<_}
-use mathlib.Core.Path.{_≡_, sym, ap, _∙_}
+use mathlib.Core.Path.{_≡_, sym, ap, ap₂, _∙_}
 use mathlib.Core.List.{List}
+use native.Mathlib.Omega.{arith}
 use lib.ListN.{length}
-use borrow.Author.Tests.{le-leb, lt-leb}
+use borrow.Author.Tests.{le-leb, lt-leb, ne-eqb}
 use Rattle.run.specs.declared.Answer.{Answer}
-use Rattle.run.specs.Answers.{bare}
+use Rattle.run.specs.declared.ReadAnswer.{ReadAnswer}
+use Rattle.run.specs.Answers.{bare, shortRoom, carrying}
 use Rattle.sorts.specs.declared.Form.{Form}
 use Rattle.sorts.specs.declared.FormFound.{FormFound}
 use Rattle.sorts.specs.declared.FormFound.the-variants.{Is, Nothing}
@@ -42,3 +44,24 @@ module _ (y : FormFound) (input buffer : List ℕ) (promised : Form → Answer) 
   pub asked-within : {r : Answer} {after : List ℕ} {f : Form} → (r ≡ promised f) × (after ≡ held f) → y ≡ Is f → length input ≤ limit
       → Asked y input buffer promised held r after
   asked-within e q h = (a-form _ _ _ _ _ q (e .0 ∙ within input _ _ h), a-form _ _ _ _ _ q (e .1 ∙ within input _ _ h))
+
+-- ---- an answer with its fifth number
+
+module _ {r : ReadAnswer} (a b : Answer) (j k : ℕ) where
+  -- a refusal carries 0, whatever is given
+  pub carried-refused : r ≡ carrying a j → (a .number ≡ 0 → ⊥) → a ≡ b → r ≡ carrying b k
+  carried-refused e n q =
+      let z = ne-eqb (a .number) 0 n in
+      let none : _≡_ {A = ReadAnswer} (carrying a j) (carrying a k) = rw z in
+      e ∙ none ∙ ap (λ (x : Answer). carrying x k) q
+
+  -- so do 11, 12 and 9
+  pub carried-bare : {m : ℕ} → r ≡ carrying a j → a ≡ bare m → 0 < m → a ≡ b → r ≡ carrying b k
+  carried-bare {m} e is h q = carried-refused e (λ z. omega (arith, ap (λ (x : Answer). x .number) is)) q
+
+  pub carried-nine : {m : ℕ} → r ≡ carrying a j → a ≡ shortRoom m → a ≡ b → r ≡ carrying b k
+  carried-nine e is q = carried-refused e (λ z. omega (arith, ap (λ (x : Answer). x .number) is)) q
+
+  -- and an accepted answer what is given
+  pub carried : r ≡ carrying a j → a ≡ b → j ≡ k → r ≡ carrying b k
+  carried e q z = e ∙ ap₂ carrying q z

@@ -8,13 +8,14 @@ use mathlib.Core.List.{List, []}
 use lib.ListN.{length}
 use Rattle.run.specs.Grammar.{RunOf, Stopped}
 use Rattle.run.specs.declared.Answer.{Answer}
+use Rattle.run.specs.declared.ReadAnswer.{ReadAnswer}
 use Rattle.run.specs.Answers.{answer, bare, shortRoom, countOf, given, over}
 use Rattle.sorts.specs.declared.Form.{Form}
 use Rattle.sorts.specs.declared.FormFound.the-variants.{Is}
 use Rattle.sorts.specs.Forms.{formOf, NoForm}
 use Rattle.element_words.specs.Words.{wordsOf}
 use Rattle.element_reading.specs.Grammar.{Spells, Refuses}
-use Rattle.element_reading.specs.ElementNumbers.{ElementRow}
+use Rattle.element_reading.specs.ElementNumbers.{reading, ElementRow}
 
 -- 12: "input over 1,048,576 entries"
 abbrev pub limit : ℕ
@@ -68,12 +69,18 @@ pub data Formed (form : ℕ) (buffer : List ℕ) (Inside : Form → Answer → L
 abbrev pub ReadTable : ℕ → List ℕ → List ℕ → Answer → List ℕ → Type 0
 ReadTable form text words = Formed form words (λ f. Answered wordsOf (RunOf (Spells f) text) (ReadingFault f text) text words)
 
--- ---- one element at a place: 11, 12, then none left, the element or its refusal: the four numbers, and the element's words
+-- ---- one element at a place: 11, 12, then none left, the element or its refusal: the five numbers, and the element's words
 
 module _ (form : ℕ) (text : List ℕ) (at : ℕ) where
-  pub data LoneTable : Answer → List ℕ → Type 0 where
-    no-form : NoForm form → LoneTable (bare 11) []
-    over-limit : {f : Form} → formOf form ≡ Is f → limit < length text → LoneTable (bare 12) []
+  pub data LoneTable : ReadAnswer → List ℕ → Type 0 where
+    no-form : NoForm form → LoneTable (reading (bare 11) 0) []
+    over-limit : {f : Form} → formOf form ≡ Is f → limit < length text → LoneTable (reading (bare 12) 0) []
     -- "the element and the place after it, or .. its refusal"; "that none is left"
-    one-element : {f : Form} {a : Answer} {words : List ℕ} → formOf form ≡ Is f → length text ≤ limit → ElementRow f text at a words
+    one-element : {f : Form} {a : ReadAnswer} {words : List ℕ} → formOf form ≡ Is f → length text ≤ limit → ElementRow f text at a words
         → LoneTable a words
+
+  -- its words into the words lent, where they fit; 9: "lent room is short": "0; room needed"
+  pub data OneTable (lent : List ℕ) : ReadAnswer → List ℕ → Type 0 where
+    fits : {a : ReadAnswer} {words : List ℕ} → LoneTable a words → length words ≤ length lent → OneTable lent a (over lent words)
+    short-room : {a : ReadAnswer} {words : List ℕ} → LoneTable a words → length lent < length words
+        → OneTable lent (reading (shortRoom (length words)) 0) lent

@@ -13,7 +13,7 @@ use borrow.Author.Tests.{le-leb, lt-leb, lt-ltb, le-ltb, leb-true, leb-false}
 use Rattle.run.specs.Choice.{pick}
 use Rattle.run.specs.Head.{Outcome, accepted, refusal}
 use Rattle.run.specs.Grammar.{RunOf}
-use Rattle.run.specs.Answers.{answer, bare, shortRoom, given, writtenOf, over, same}
+use Rattle.run.specs.Answers.{answer, bare, shortRoom, carrying, given, writtenOf, over, same}
 use Rattle.run.proofs.Answers as answers
 use Rattle.sorts.specs.declared.Form.{Form}
 use Rattle.sorts.specs.declared.FormFound.the-variants.{Is}
@@ -23,7 +23,7 @@ use Rattle.element_words.specs.Words.{wordsOf}
 use Rattle.element_reading.specs.Grammar.{Spells}
 use Rattle.element_reading.proofs.Places.{reading-number}
 use Rattle.text_loops.specs.Fronts.{readIn}
-use Rattle.text_reading.specs.ReadAnswers.{readAnswer}
+use Rattle.text_reading.specs.ReadAnswers.{readReading}
 use Rattle.text_loops.proofs.FewWords as few
 use Rattle.text_reading.proofs.ReadTexts as text
 use Rattle.case_table.specs.declared.Header.{Header}
@@ -37,12 +37,13 @@ use Rattle.case_table.proofs.Laid.{laid-exactly, case-header, case-pages}
 use Rattle.tlx.specs.declared.CaseAnswer.{CaseAnswer}
 use Rattle.tlx.specs.declared.Page.the-variants.{Is as IsPage, NoPage}
 use Rattle.tlx.specs.CaseReadingNumbers.{AllSpelt, none, more, Faulty, AcceptedCase, RefusedCase, of-case, of-page, CaseTable}
-use Rattle.tlx.specs.CaseReadingNumbers.{Size, CaseTells, beside}
+use Rattle.tlx.specs.CaseReadingNumbers.{Size, CaseTells, beside, withoutFifth}
 use Rattle.tlx.specs.CaseReading.{CaseOutcome, all, fault, joinPages, afterPage, readPage, readPages, readCase}
-use Rattle.tlx.specs.CaseReading.{readCaseAnswer, readCaseWords, aloneAnswer, pageAnswer, outcomeOf, caseAnswer, pageWords}
+use Rattle.tlx.specs.CaseReading.{readCaseAnswer, readCaseReading, caseRespelled, carryingCase, readCaseWords, aloneReading, pageAnswer}
+use Rattle.tlx.specs.CaseReading.{outcomeOf, caseAnswer, pageWords}
 use Rattle.tlx.specs.Promises.{ReadCasePromise}
 use Rattle.tlx.proofs.Pages.{join-none, join-join, page-read}
-use Rattle.tlx.proofs.Rooms.{case-turned, turned-answers}
+use Rattle.tlx.proofs.Rooms.{case-turned, turned-readings}
 use Rattle.sorts.proofs.FormNumbers.{is-found}
 
 module _ (form : ℕ) (f : Form) (is-form : formOf form ≡ Is f) where
@@ -289,19 +290,19 @@ words-joined f (more {page} {pages} {es} {fs} r s) =
 
 -- Each page's answer is that of its octets, read as a text with room enough.
 pub page-answers : (case : List ℕ) (form : ℕ) (pages : List (List ℕ)) → CaseOf case form pages → (k : ℕ) → k < length pages
-    → pageAnswer case k ≡ IsPage (readAnswer form (getD pages k []) (length (getD pages k [])))
+    → pageAnswer case k ≡ IsPage (readReading form (getD pages k []) (length (getD pages k [])))
 unfolding pageAnswer
 page-answers case form pages c k h =
     simp (case-header case form pages c, lt-ltb k (length pages) h)
-    (ap (λ (l : List (ℕ × List ℕ)). IsPage (aloneAnswer (getD l k (form, [])))) (case-pages case form pages c)
-    ∙ ap (λ (page : ℕ × List ℕ). IsPage (aloneAnswer page)) (List·getD-map (λ (page : List ℕ). (form, page)) pages k []))
+    (ap (λ (l : List (ℕ × List ℕ)). IsPage (aloneReading (getD l k (form, [])))) (case-pages case form pages c)
+    ∙ ap (λ (page : ℕ × List ℕ). IsPage (aloneReading page)) (List·getD-map (λ (page : List ℕ). (form, page)) pages k []))
 
 pub no-page-answers : (case : List ℕ) (form : ℕ) (pages : List (List ℕ)) → CaseOf case form pages → (k : ℕ) → length pages ≤ k
     → pageAnswer case k ≡ NoPage
 unfolding pageAnswer
 no-page-answers case form pages c k h = simp (case-header case form pages c, le-ltb k (length pages) h)
 
-pub turned-page-answers : (case : List ℕ) (r k : ℕ) → Turned case r → pageAnswer case k ≡ IsPage (bare r)
+pub turned-page-answers : (case : List ℕ) (r k : ℕ) → Turned case r → pageAnswer case k ≡ IsPage (carrying (bare r) 0)
 unfolding pageAnswer
 turned-page-answers case r k t = simp (turned-exactly case r .1 t)
 
@@ -321,20 +322,30 @@ by-itself (of-case t) h = t
 by-itself (of-page {f = f} q c i) h = absurd (omega (arith, reading-number f (i .refused .here)))
 
 module _ (case words : List ℕ) (r : CaseAnswer) (after : List ℕ) where
-  -- What `read_case` promises is a row of 01's table, of a case of octets; and a row, of such a case, is what it promises.
-  pub read-case-exactly : ReadCasePromise case words r after ↔ (CaseTable case words r after × Octets case)
+  -- What `read_case` promises is a row of 01's table, of a case of octets, and its fifth number the pages' of an accepted case, else 0; and
+  -- such a row, of such a case, is what it promises.
+  pub read-case-exactly : ReadCasePromise case words r after
+      ↔ (CaseTable case words (withoutFifth r) after × Octets case × (r ≡ carryingCase (withoutFifth r) (caseRespelled case)))
+  unfolding readCaseAnswer
   read-case-exactly = (
-    λ p. (case-exactly case (p .2) words r after .0 (sym (p .0), sym (p .1)), p .2),
-    λ row. let e = case-exactly case (row .1) words r after .1 (row .0) in (sym (e .0), sym (e .1), row .1),
+    λ p.
+        let four : withoutFifth r ≡ readCaseAnswer case (length words) = ap withoutFifth (p .0) in (
+          case-exactly case (p .2) words (withoutFifth r) after .0 (sym four, sym (p .1)),
+          p .2,
+          p .0 ∙ ap (λ (x : CaseAnswer). carryingCase x (caseRespelled case)) (sym four),
+        ),
+    λ row.
+        let e = case-exactly case (row .1) words (withoutFifth r) after .1 (row .0) in
+        (row .2 ∙ ap (λ (x : CaseAnswer). carryingCase x (caseRespelled case)) (sym (e .0)), sym (e .1), row .1),
   )
 
   module _ (promise : ReadCasePromise case words r after) where
     -- The number tells the row.
-    pub read-case-tells : CaseTells case words r after
+    pub read-case-tells : CaseTells case words (withoutFifth r) after
     read-case-tells = row-tells (read-case-exactly .0 promise .0)
 
     answered : {a : CaseAnswer} {after′ : List ℕ} → CaseTable case words a after′ → r .answer .number ≡ a .answer .number
-    answered row = ap (λ (x : CaseAnswer). x .answer .number) (promise .0 ∙ of-row row .0)
+    answered row = ap (λ (x : CaseAnswer). x .answer .number) (promise .0) ∙ ap (λ (x : CaseAnswer). x .answer .number) (of-row row .0)
 
     -- 11, 13, 14 and 15 are given exactly when header and table are turned away so: no page's refusal has such a number.
     pub read-case-turned : (n : ℕ) → 10 < n → (r .answer .number ≡ n) ↔ Turned case n
@@ -348,7 +359,7 @@ module _ (case words : List ℕ) (r : CaseAnswer) (after : List ℕ) where
     -- They name no page, element or place, and write nothing.
     pub read-case-turned-so : (n : ℕ) → Turned case n → (r ≡ beside 0 (bare n)) × (after ≡ words)
     read-case-turned-so n t =
-        let e = turned-answers case n words (turned-exactly case n .1 t) in (promise .0 ∙ sym (e .0), promise .1 ∙ sym (e .1))
+        let e = turned-readings case n words (turned-exactly case n .1 t) in (promise .0 ∙ sym (e .0), promise .1 ∙ sym (e .1))
 
     -- Every number but 0 and 9 is given exactly when the case is refused with it, by itself or at a page.
     pub read-case-refused : (n : ℕ) → 0 < n → (n ≡ 9 → ⊥)

@@ -2,7 +2,7 @@
 -- reading each of its pages agree; and so do cases of joined pages.
 -- Assumes nothing.
 use Prim.Native.Nat.{ℕ, zero, suc, _≤_, _<_}
-use mathlib.Core.Path.{_≡_, refl, sym, ap, subst, _∙_}
+use mathlib.Core.Path.{_≡_, refl, sym, ap, ap₂, subst, _∙_}
 use mathlib.Core.Logic.{_↔_}
 use mathlib.Core.Bool.{Bool, true, false}
 use mathlib.Core.List.{List, [], _∷_, _++_}
@@ -15,7 +15,9 @@ use borrow.Author.Tests.{ltb-true, ltb-false}
 use Rattle.run.specs.Head.{Outcome, accepted, refusal}
 use Rattle.run.specs.Grammar.{RunOf}
 use Rattle.run.specs.declared.Answer.{Answer}
-use Rattle.run.specs.Answers.{answer, bare, countOf, given, roomyAnswer}
+use Rattle.run.specs.declared.ReadAnswer.{ReadAnswer}
+use Rattle.run.specs.Answers.{answer, bare, countOf, carrying, given, roomyAnswer}
+use Rattle.run.proofs.Answers.{carrying-none}
 use Rattle.run.proofs.Members.{member-at}
 use Rattle.sorts.specs.declared.Form.{Form}
 use Rattle.sorts.specs.declared.FormFound.the-variants.{Is}
@@ -24,9 +26,12 @@ use Rattle.sorts.proofs.FormNumbers.{is-found}
 use Rattle.element_words.specs.declared.Element.{Element}
 use Rattle.element_words.specs.Words.{wordsOf}
 use Rattle.element_reading.specs.Grammar.{Spells}
+use Rattle.element_reading.specs.ElementNumbers.{reading}
 use Rattle.element_reading.proofs.Places.{reading-number}
-use Rattle.text_loops.specs.Fronts.{readIn}
-use Rattle.text_reading.specs.ReadAnswers.{readAnswer}
+use Rattle.text_loops.specs.Fronts.{readIn, respelledBefore}
+use Rattle.text_reading.specs.ReadAnswers.{readReading}
+use Rattle.text_reading.specs.ReadingNumbers.{ReadingFault}
+use Rattle.text_reading.proofs.Respelled.{respelled-is, respelled-exactly}
 use Rattle.text_reading.proofs.ReadTexts as text
 use Rattle.case_table.specs.declared.Header.{Header}
 use Rattle.case_table.specs.declared.Header.the-variants.{Refused, Pages}
@@ -73,31 +78,42 @@ all-spelt f (page ∷ pages) each =
     let others = all-spelt f pages (λ k h. each (suc k) (omega arith)) in
     (first .0 ++ others .0, more (first .1) (others .1))
 
+-- a page's refusal has a number
+fault-number : {f : Form} {page : List ℕ} {r n p d : ℕ} → ReadingFault f page r n p d → r ≡ 0 → ⊥
+fault-number {f} i z = omega (arith, reading-number f (i .here))
+
 module _ (case : List ℕ) (form : ℕ) (f : Form) (is-form : formOf form ≡ Is f) (pages : List (List ℕ)) (laid : CaseOf case form pages) where
   -- A page of a case is within the limit, so it is answered by its reading alone, as a text of its octets: 12 is not asked.
   pub page-read : (k : ℕ) → k < length pages
-      → pageAnswer case k ≡ IsPage (roomyAnswer wordsOf (length (getD pages k [])) (readIn f (getD pages k [])))
+      → pageAnswer case k
+      ≡ IsPage (carrying (roomyAnswer wordsOf (length (getD pages k [])) (readIn f (getD pages k []))) (respelledBefore f (getD pages k [])))
   page-read k h =
-      let s = laid .short (getD pages k []) (member-at pages [] k h) in
-      page-answers case form pages laid k h ∙ ap IsPage (alone-is form is-form (getD pages k []) (omega (arith, s)))
+      let page = getD pages k [] in
+      let s = laid .short page (member-at pages [] k h) in
+      page-answers case form pages laid k h
+      ∙ ap₂ (λ (a : Answer) (n : ℕ). IsPage (carrying a n)) (alone-is form is-form page (omega (arith, s)))
+      (respelled-is form f is-form page)
 
-  -- the four numbers of a page's answer
+  -- the five numbers of a page's answer
   pub page-numbers : (k : ℕ) → k < length pages
-      → pageValues (pageAnswer case k) ≡ roomyAnswer wordsOf (length (getD pages k [])) (readIn f (getD pages k [])) ∷ []
+      → pageValues (pageAnswer case k)
+      ≡ carrying (roomyAnswer wordsOf (length (getD pages k [])) (readIn f (getD pages k []))) (respelledBefore f (getD pages k [])) ∷ []
   page-numbers k h = ap pageValues (page-read k h)
 
-  -- a page that is a run of elements: 0, its elements, its length, its words
+  -- a page that is a run of elements: 0, its elements, its length, its words, and how many of its elements are not canonical
   pub page-accepted : (k : ℕ) → k < length pages → (fs : List Element) → RunOf (Spells f) (getD pages k []) fs
-      → pageAnswer case k ≡ IsPage (answer 0 (length fs) (length (getD pages k [])) (length (given wordsOf fs)))
+      → pageAnswer case k
+      ≡ IsPage (reading (answer 0 (length fs) (length (getD pages k [])) (length (given wordsOf fs))) (respelledBefore f (getD pages k [])))
   page-accepted k h fs r =
       page-read k h
-      ∙ ap (λ (x : Outcome Element). IsPage (roomyAnswer wordsOf (length (getD pages k [])) x))
+      ∙ ap (λ (x : Outcome Element). IsPage (carrying (roomyAnswer wordsOf (length (getD pages k [])) x) (respelledBefore f (getD pages k []))))
       (text.accepted-exactly f (getD pages k []) fs .1 r)
 
   -- In an accepted case every page is accepted by itself,
   pub each-accepted : (es : List Element) → AllSpelt f pages es → (k : ℕ) → k < length pages
-      → (fs : List Element) × RunOf (Spells f)
-      (getD pages k []) fs × (pageAnswer case k ≡ IsPage (answer 0 (length fs) (length (getD pages k [])) (length (given wordsOf fs))))
+      → (fs : List Element) × RunOf (Spells f) (getD pages k []) fs
+      × (pageAnswer case k
+      ≡ IsPage (reading (answer 0 (length fs) (length (getD pages k [])) (length (given wordsOf fs))) (respelledBefore f (getD pages k []))))
   each-accepted es s k h = let r = spelt-at s k h in (r .0, r .1, page-accepted k h (r .0) (r .1))
 
   -- and where every page is, the case is.
@@ -118,17 +134,19 @@ module _ (case : List ℕ) (form : ℕ) (f : Form) (is-form : formOf form ≡ Is
         ∙ getD-at (faulty .before) (faulty .page) (faulty .behind) [] g (sym (faulty .named))
 
     -- A page with a fault is the page that is named: by itself it has the same refusal.
-    pub named-page : pageAnswer case g ≡ IsPage (answer r n p (countOf r d))
+    pub named-page : pageAnswer case g ≡ IsPage (reading (answer r n p (countOf r d)) 0)
     named-page =
         page-read g inside
-        ∙ ap (λ (s : List ℕ). IsPage (roomyAnswer wordsOf (length s) (readIn f s))) the-page
-        ∙ ap (λ (x : Outcome Element). IsPage (roomyAnswer wordsOf (length (faulty .page)) x))
+        ∙ ap (λ (s : List ℕ). IsPage (carrying (roomyAnswer wordsOf (length s) (readIn f s)) (respelledBefore f s))) the-page
+        ∙ ap (λ (x : Outcome Element). IsPage (carrying (roomyAnswer wordsOf (length (faulty .page)) x) (respelledBefore f (faulty .page))))
         (text.read-meets f (faulty .page) .faults r n p d .1 (faulty .refused))
+        ∙ ap IsPage (sym (carrying-none (answer r n p (countOf r d)) _ (fault-number (faulty .refused))))
 
     -- The pages before it are accepted.
     pub before-named : (k : ℕ) → k < g
-        → (fs : List Element) × RunOf (Spells f)
-        (getD pages k []) fs × (pageAnswer case k ≡ IsPage (answer 0 (length fs) (length (getD pages k [])) (length (given wordsOf fs))))
+        → (fs : List Element) × RunOf (Spells f) (getD pages k []) fs
+        × (pageAnswer case k
+        ≡ IsPage (reading (answer 0 (length fs) (length (getD pages k [])) (length (given wordsOf fs))) (respelledBefore f (getD pages k []))))
     before-named k h =
         let l : k < length (faulty .before) = omega (arith, faulty .named) in
         let s = spelt-at (faulty .spelt) k l in
@@ -141,20 +159,33 @@ module _ (case : List ℕ) (form : ℕ) (f : Form) (is-form : formOf form ≡ Is
 -- ---- one page, by its row of the table
 
 -- each row is answered so
-pub of-page-row : {case : List ℕ} {k : ℕ} {numbers : List Answer} → PageTable case k numbers → pageValues (pageAnswer case k) ≡ numbers
-of-page-row {case} {k} (PageTable.of-case {r} t) = ap pageValues (turned-page-answers case r k t)
+pub of-page-row : {case : List ℕ} {k : ℕ} {numbers : List ReadAnswer} → PageTable case k numbers → pageValues (pageAnswer case k) ≡ numbers
+of-page-row {case} {k} (PageTable.of-case {r} t) =
+    ap pageValues (turned-page-answers case r k t)
+    ∙ ap (λ (a : ReadAnswer). a ∷ []) (sym (carrying-none (bare r) 0 (λ z. omega (arith, turned-number t .0))))
 of-page-row {case} {k} (PageTable.no-page {form} {pages} c h) = ap pageValues (no-page-answers case form pages c k h)
 of-page-row {case} {k} (PageTable.refused {form} {f} {pages} {r} {n} {p} {d} q c h i) =
+    let page = getD pages k [] in
     page-numbers case form f q pages c k h
-    ∙ ap (λ (x : Outcome Element). roomyAnswer wordsOf (length (getD pages k [])) x ∷ [])
-    (text.read-meets f (getD pages k []) .faults r n p d .1 i)
-of-page-row {case} {k} (PageTable.accepted {form} {f} {pages} {es} q c h s) = ap pageValues (page-accepted case form f q pages c k h es s)
+    ∙ ap (λ (x : Outcome Element). carrying (roomyAnswer wordsOf (length page) x) (respelledBefore f page) ∷ [])
+    (text.read-meets f page .faults r n p d .1 i)
+    ∙ ap (λ (a : ReadAnswer). a ∷ []) (sym (carrying-none (answer r n p (countOf r d)) _ (fault-number i)))
+of-page-row {case} {k} (PageTable.accepted {form} {f} {pages} {ps} {es} {k = j} q c h s apart) =
+    let page = getD pages k [] in
+    ap pageValues (page-accepted case form f q pages c k h es (ps, s))
+    ∙ ap (λ (n : ℕ). reading (answer 0 (length es) (length page) (length (given wordsOf es))) n ∷ []) (respelled-exactly f s j .1 apart)
 
 module _ (case : List ℕ) (octets : Octets case) (k : ℕ) where
   by-text : (form : ℕ) (f : Form) → formOf form ≡ Is f → (pages : List (List ℕ)) → CaseOf case form pages → k < length pages
-      → (x : Outcome Element) → readIn f (getD pages k []) ≡ x → PageTable case k (roomyAnswer wordsOf (length (getD pages k [])) x ∷ [])
-  by-text form f q pages c h (accepted es) e = PageTable.accepted q c h (text.accepted-exactly f (getD pages k []) es .0 e)
-  by-text form f q pages c h (refusal r n p d) e = PageTable.refused q c h (text.read-meets f (getD pages k []) .faults r n p d .0 e)
+      → (x : Outcome Element) → readIn f (getD pages k []) ≡ x
+      → PageTable case k (carrying (roomyAnswer wordsOf (length (getD pages k [])) x) (respelledBefore f (getD pages k [])) ∷ [])
+  by-text form f q pages c h (accepted es) e =
+      let s = text.accepted-exactly f (getD pages k []) es .0 e in
+      PageTable.accepted q c h (s .1) (respelled-exactly f (s .1) _ .0 refl)
+  by-text form f q pages c h (refusal r n p d) e =
+      let i = text.read-meets f (getD pages k []) .faults r n p d .0 e in
+      subst (λ (a : ReadAnswer). PageTable case k (a ∷ [])) (carrying-none (answer r n p (countOf r d)) _ (fault-number i))
+      (PageTable.refused q c h i)
 
   by-count : (form : ℕ) (pages : List (List ℕ)) → CaseOf case form pages → (t : Bool) → ltb k (length pages) ≡ t
       → PageTable case k (pageValues (pageAnswer case k))
@@ -170,7 +201,9 @@ module _ (case : List ℕ) (octets : Octets case) (k : ℕ) where
   by-header : (h : Header) → headerOf case ≡ h → PageTable case k (pageValues (pageAnswer case k))
   by-header (Refused r) q =
       let t = turned-exactly case r .0 q in
-      subst (PageTable case k) (sym (ap pageValues (turned-page-answers case r k t))) (PageTable.of-case t)
+      let none = carrying-none (bare r) 0 (λ z. omega (arith, turned-number t .0)) in
+      subst (PageTable case k) (ap (λ (a : ReadAnswer). a ∷ []) none ∙ sym (ap pageValues (turned-page-answers case r k t)))
+      (PageTable.of-case t)
   by-header (Pages form n) q =
       let l = laid-exactly case octets form n .0 q in by-count form (l .0) (l .2) (ltb k (length (l .0))) refl
 
@@ -180,34 +213,34 @@ module _ (case : List ℕ) (octets : Octets case) (k : ℕ) where
 
 -- ---- from the promise of `page_elements`, in its own words
 
--- four numbers are given, and n is the first of them
-abbrev Numbered : ℕ → List Answer → Type 0
+-- numbers are given, and n is the first of them
+abbrev Numbered : ℕ → List ReadAnswer → Type 0
 Numbered n [] = ⊥
-Numbered n (a ∷ numbers) = a .number ≡ n
+Numbered n (a ∷ numbers) = a .answer .number ≡ n
 
-row-turned : {case : List ℕ} {k : ℕ} {numbers : List Answer} → PageTable case k numbers → (n : ℕ) → 10 < n → Numbered n numbers
+row-turned : {case : List ℕ} {k : ℕ} {numbers : List ReadAnswer} → PageTable case k numbers → (n : ℕ) → 10 < n → Numbered n numbers
     → Turned case n
 row-turned {case} (PageTable.of-case t) n h e = subst (Turned case) e t
 row-turned (PageTable.no-page c l) n h e = absurd e
 row-turned (PageTable.refused {f = f} q c l i) n h e = absurd (omega (arith, reading-number f (i .here)))
-row-turned (PageTable.accepted q c l s) n h e = absurd (omega arith)
+row-turned (PageTable.accepted q c l s a) n h e = absurd (omega arith)
 
 module _ (case : List ℕ) (k : ℕ) (r : Page) (promise : PageElementsPromise case k r) where
-  -- The four numbers, or that there are none, are exactly those of a row of the table.
-  pub page-elements-exactly : (numbers : List Answer) → (pageValues r ≡ numbers) ↔ PageTable case k numbers
+  -- The five numbers, or that there are none, are exactly those of a row of the table.
+  pub page-elements-exactly : (numbers : List ReadAnswer) → (pageValues r ≡ numbers) ↔ PageTable case k numbers
   page-elements-exactly numbers =
       (λ e. subst (PageTable case k) e (promise .1), λ row. ap pageValues (promise .0) ∙ of-page-row row)
 
   -- 11, 13, 14 and 15 are given exactly when header and table are turned away so.
-  pub page-elements-turned : (n : ℕ) → 10 < n → ((a : Answer) × (r ≡ IsPage a) × (a .number ≡ n)) ↔ Turned case n
+  pub page-elements-turned : (n : ℕ) → 10 < n → ((a : ReadAnswer) × (r ≡ IsPage a) × (a .answer .number ≡ n)) ↔ Turned case n
   page-elements-turned n h = (
     λ x. row-turned (promise .1) n h (subst (Numbered n) (sym (ap pageValues (x .1))) (x .2)),
-    λ t. (bare n, promise .0 ∙ turned-page-answers case n k t, refl),
+    λ t. (carrying (bare n) 0, promise .0 ∙ turned-page-answers case n k t, refl),
   )
 
   -- A page of the case is answered as a text of its octets alone, with room enough;
   pub page-elements-read : (form : ℕ) (pages : List (List ℕ)) → CaseOf case form pages → k < length pages
-      → r ≡ IsPage (readAnswer form (getD pages k []) (length (getD pages k [])))
+      → r ≡ IsPage (readReading form (getD pages k []) (length (getD pages k [])))
   page-elements-read form pages laid h = promise .0 ∙ page-answers case form pages laid k h
 
   none-by-count : (form : ℕ) (pages : List (List ℕ)) → CaseOf case form pages → r ≡ NoPage → (t : Bool) → ltb k (length pages) ≡ t
@@ -234,22 +267,22 @@ module _ (case : List ℕ) (k : ℕ) (r : Page) (promise : PageElementsPromise c
 -- ---- `read_case` and `page_elements` agree, from both promises
 
 module _ (case words : List ℕ) (a : CaseAnswer) (after : List ℕ) (read : ReadCasePromise case words a after) where
-  refused-page : {g r n p d : ℕ} → RefusedCase case g r n p d → r < 9 → pageAnswer case g ≡ IsPage (answer r n p (countOf r d))
+  refused-page : {g r n p d : ℕ} → RefusedCase case g r n p d → r < 9 → pageAnswer case g ≡ IsPage (reading (answer r n p (countOf r d)) 0)
   refused-page (of-case t) h = absurd (omega (arith, turned-number t .0))
   refused-page (of-page {form} {f} {pages} {g} {r} {n} {p} {d} q c i) h = named-page case form f q pages c g r n p d i
 
   -- The page that a case's refusal names has that refusal by itself.
   pub named-page-answers : 0 < a .answer .number → a .answer .number < 9 → (r : Page) → PageElementsPromise case (a .page) r
-      → r ≡ IsPage (a .answer)
+      → r ≡ IsPage (reading (a .answer) 0)
   named-page-answers h l r promise =
       let t = read-case-tells case words a after read .is-other (λ z. omega arith) (λ z. omega arith) in
       promise .0
       ∙ refused-page (t .1) l
-      ∙ ap (λ (c : ℕ). IsPage (answer (a .answer .number) (a .answer .element) (a .answer .place) c)) (sym (t .2))
+      ∙ ap (λ (c : ℕ). IsPage (reading (answer (a .answer .number) (a .answer .element) (a .answer .place) c) 0)) (sym (t .2))
 
   accepted-by : {es : List Element} (c : AcceptedCase case es) (form : ℕ) (pages : List (List ℕ)) → CaseOf case form pages
       → (k : ℕ) → k < length pages → (r : Page) → PageElementsPromise case k r → (t : Bool) → ltb k (length (c .pages)) ≡ t
-      → (b : Answer) × (r ≡ IsPage b) × (b .number ≡ 0)
+      → (b : ReadAnswer) × (r ≡ IsPage b) × (b .answer .number ≡ 0)
   accepted-by {es} c form pages laid k h r promise true q =
       let x = each-accepted case (c .form) (c .the-form) (c .is-form) (c .pages) (c .laid) es (c .spelt) k (ltb-true k _ q) in
       (_, promise .0 ∙ x .2, refl)
@@ -261,7 +294,8 @@ module _ (case words : List ℕ) (a : CaseAnswer) (after : List ℕ) (read : Rea
 
   -- Where the case is accepted, each of its pages is answered by itself, with number 0.
   pub each-page-accepted : a .answer .number ≡ 0 → (form : ℕ) (pages : List (List ℕ)) → CaseOf case form pages
-      → (k : ℕ) → k < length pages → (r : Page) → PageElementsPromise case k r → (b : Answer) × (r ≡ IsPage b) × (b .number ≡ 0)
+      → (k : ℕ) → k < length pages → (r : Page) → PageElementsPromise case k r
+      → (b : ReadAnswer) × (r ≡ IsPage b) × (b .answer .number ≡ 0)
   each-page-accepted e form pages laid k h r promise =
       let t = read-case-tells case words a after read .is-0 e in
       accepted-by (t .1) form pages laid k h r promise (ltb k (length (t .1 .pages))) refl

@@ -9,6 +9,7 @@ use borrow.Author.Tests.{le-leb}
 use borrow.Rule.Slice.PartMut.{putMid}
 use Rattle.run.specs.Head.{Outcome, accepted, refusal}
 use Rattle.run.specs.declared.Answer.{Answer}
+use Rattle.run.specs.declared.ReadAnswer.{ReadAnswer}
 use Rattle.run.specs.Answers.{given, over, answerOf, writtenOf, roomFor}
 use Rattle.run.specs.Put.{Put}
 use Rattle.run.proofs.Answers.{given-length, given-front}
@@ -17,7 +18,7 @@ use Rattle.sorts.specs.declared.Form.{Form}
 use Rattle.element_words.specs.declared.Element.{Element}
 use Rattle.element_words.specs.Words.{wordsOf}
 use Rattle.text_loops.specs.Fronts.{readIn}
-use Rattle.text_reading.specs.ReadAnswers.{readAnswer, readWords}
+use Rattle.text_reading.specs.ReadAnswers.{readAnswer, readWords, readReading}
 use Rattle.case_table.specs.declared.Header.the-variants.{Pages}
 use Rattle.case_table.specs.Layout.{number16}
 use Rattle.case_table.specs.Check.{headerOf, pagesOf}
@@ -84,8 +85,14 @@ module _ {case words₀ : List ℕ} (room : Roomy case words₀) {form pages sta
         }
     taken-by (refusal r n p d) q w = absurd (rw (read-stop (was .read) h e r n p d q) at room)
 
-    module _ {a : Answer} {l′ : List ℕ}
-        (answered : (a ≡ readAnswer form octets (length (behind words o))) × (l′ ≡ readWords form octets (behind words o))) where
+    module _ {five : ReadAnswer} {l′ : List ℕ}
+        (promised : (five ≡ readReading form octets (length (behind words o))) × (l′ ≡ readWords form octets (behind words o))) where
+      abbrev a : Answer
+      a = five .answer
+
+      answered : (a ≡ readAnswer form octets (length (behind words o))) × (l′ ≡ readWords form octets (behind words o))
+      answered = (ap (λ (x : ReadAnswer). x .answer) (promised .0), promised .1)
+
       taken : Taken words o (readIn f octets) a l′
       unfolding readAnswer readWords
       taken =

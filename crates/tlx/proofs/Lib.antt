@@ -4,4 +4,5 @@ mod Rooms
 mod OnePage
 pub mod Cases
 pub mod EachPage
+pub mod Respelled
 pub mod OneAnswer

@@ -1,14 +1,16 @@
 -- What a loop that goes through the pages of a case knows at a page; and what measuring them answers.
 -- Assumes nothing.
 use Prim.Native.Nat.{ℕ, _+_, _*_, _≤_, _<_}
-use mathlib.Core.Path.{_≡_, refl, sym, ap, _∙_}
+use mathlib.Core.Path.{_≡_, refl, sym, ap, ap₂, _∙_}
 use mathlib.Core.List.{List, [], _++_, append-assoc, append-nil}
 use native.Mathlib.Nat.{zero-add, add-zero, add-assoc}
 use native.Mathlib.Omega.{arith}
 use lib.ListN.{length, drop, length-append, drop-of-length-le}
+use borrow.Author.Tests.{eq-eqb, ne-eqb}
 use Rattle.run.specs.Loops.{Numbered}
 use Rattle.run.specs.Head.{Outcome, accepted, refusal}
 use Rattle.run.specs.declared.Answer.{Answer}
+use Rattle.run.specs.declared.ReadAnswer.{ReadAnswer}
 use Rattle.run.specs.Answers.{answer, given, roomyAnswer}
 use Rattle.run.proofs.Answers.{given-length}
 use Rattle.run.proofs.Loops.{run-few}
@@ -21,7 +23,9 @@ use Rattle.element_words.specs.Words.{wordsOf}
 use Rattle.element_reading.proofs.Reader.{reads}
 use Rattle.text_loops.specs.Fronts.{readIn}
 use Rattle.text_loops.proofs.FewWords.{few-words}
+use Rattle.text_reading.specs.ReadAnswers.{respelledIn}
 use Rattle.text_reading.proofs.ReadTexts.{accepted-exactly, measure-is}
+use Rattle.text_reading.proofs.Respelled.{respelled-is, respelled-few}
 use Rattle.case_table.specs.declared.Header.the-variants.{Pages}
 use Rattle.case_table.specs.Layout.{number16, lengthsIn, total}
 use Rattle.case_table.specs.Check.{headerOf, pagesOf}
@@ -29,8 +33,8 @@ use Rattle.case_table.specs.PagePlaces.{Right, totalBefore, between}
 use Rattle.case_table.proofs.PagePlaces.{right-header, pages-counted, start-next, page-inside, between-length, page-next}
 use Rattle.tlx.specs.declared.CaseAnswer.{CaseAnswer}
 use Rattle.tlx.specs.CaseReading.{CaseOutcome, all, fault, joinPages, afterPage, readPage, readPages, readCase, aloneAnswer}
-use Rattle.tlx.specs.CaseReading.{caseMeasured}
-use Rattle.tlx.specs.CaseReadingNumbers.{beside}
+use Rattle.tlx.specs.CaseReading.{aloneReading, caseMeasured, pagesRespelled, caseRespelled, carryingCase}
+use Rattle.tlx.specs.CaseReadingNumbers.{beside, withoutFifth}
 
 -- ---- one page
 
@@ -151,24 +155,49 @@ module _ {case : List ℕ} {form pages start page : ℕ} {es : List Element} (wa
       let e : page ≡ pages = omega (arith, was .inside) in
       was .begins ∙ ap (λ (k : ℕ). 8 + 2 * pages + totalBefore case k) e ∙ sym (was .right .size)
 
+-- ---- the fifth number
+
+-- a refusal carries 0
+pub carried-none : (a b : CaseAnswer) (k : ℕ) → withoutFifth a ≡ b → (a .answer .number ≡ 0 → ⊥) → withoutFifth a ≡ carryingCase b k
+carried-none a b k q n =
+    let z = ne-eqb (a .answer .number) 0 n in
+    let none : _≡_ {A = CaseAnswer} (withoutFifth a) (carryingCase (withoutFifth a) k) = sym (rw z) in
+    none ∙ ap (λ (x : CaseAnswer). carryingCase x k) q
+
 -- ---- measuring
 
-pub record Measured (case : List ℕ) (form pages start page n count : ℕ) : Type 0 where
+pub record Measured (case : List ℕ) (form pages start page n count k : ℕ) : Type 0 where
   pub es : List Element
   pub read : Read case form pages start page es
   pub number : n ≡ length es
   pub counted : count ≡ length (given wordsOf es)
+  pub respelled : k ≤ n
+  pub added : caseRespelled case ≡ k + pagesRespelled (drop page (pagesOf case))
 
-pub measure-start : {case : List ℕ} {form pages : ℕ} → headerOf case ≡ Pages form pages → Measured case form pages (8 + 2 * pages) 0 0 0
-unfolding given
-measure-start q = record { es = []; read = read-start q; number = refl; counted = refl }
+pub measure-start : {case : List ℕ} {form pages : ℕ} → headerOf case ≡ Pages form pages → Measured case form pages (8 + 2 * pages) 0 0 0 0
+unfolding given caseRespelled
+measure-start {case} q =
+    record {
+      es = [];
+      read = read-start q;
+      number = refl;
+      counted = refl;
+      respelled = omega arith;
+      added = simp q (sym (zero-add (pagesRespelled (pagesOf case))));
+    }
 
-module _ {case : List ℕ} {form pages start page n count : ℕ} (was : Measured case form pages start page n count) where
-  pub measured-small : (n ≤ 16777480) × (count ≤ 34 * 16777480) × (start ≤ 16777480)
-  measured-small = omega (arith, was .number, was .counted, read-small (was .read))
+module _ {case : List ℕ} {form pages start page n count respelled : ℕ} (was : Measured case form pages start page n count respelled) where
+  pub measured-small : (n ≤ 16777480) × (count ≤ 34 * 16777480) × (start ≤ 16777480) × (respelled ≤ 16777480)
+  measured-small = omega (arith, was .number, was .counted, was .respelled, read-small (was .read))
 
   module _ (h : page < pages) {len : ℕ} (e : (len ≡ number16 case (8 + 2 * page)) × (len < 0x10000))
-      {m : Answer} (a : m ≡ aloneAnswer (form, between case start (start + len))) where
+      {r : ReadAnswer} (all-five : r ≡ aloneReading (form, between case start (start + len))) where
+    abbrev m : Answer
+    m = r .answer
+
+    a : m ≡ aloneAnswer (form, between case start (start + len))
+    a = ap (λ (x : ReadAnswer). x .answer) all-five
+
     abbrev g : Form
     g = was .read .right .the-form
 
@@ -182,8 +211,21 @@ module _ {case : List ℕ} {form pages start page n count : ℕ} (was : Measured
         ∙ alone-is form (was .read .right .is-form) the-page (omega (arith, l, e .1))
         ∙ ap (λ (k : ℕ). roomyAnswer wordsOf k (readIn g the-page)) l
 
+    -- its fifth number, of an accepted page: the page's own, and at most its elements
+    fifth : m .number ≡ 0 → r .respelled ≡ respelledIn form the-page
+    fifth z = ap (λ (x : ReadAnswer). x .respelled) all-five ∙ rw (eq-eqb (aloneAnswer (form, the-page) .number) 0 (sym (ap (λ (x : Answer). x .number) a) ∙ z)) refl
+
+    fifth-few : (fs : List Element) → readIn g the-page ≡ accepted fs → respelledIn form the-page ≤ length fs
+    fifth-few fs q = omega (arith, respelled-is form g (was .read .right .is-form) the-page, respelled-few g the-page fs q)
+
+    on-page : caseRespelled case ≡ respelled + (respelledIn form the-page + pagesRespelled (drop (page + 1) (pagesOf case)))
+    unfolding pagesRespelled
+    on-page =
+        was .added
+        ∙ ap (λ (l : List (ℕ × List ℕ)). respelled + pagesRespelled l) (page-next (was .read .right) h (was .read .begins) (e .0))
+
     turn-by : (x : Outcome Element) → readIn g the-page ≡ x → m ≡ roomyAnswer wordsOf len x → m .number ≡ 0
-        → Measured case form pages (start + len) (page + 1) (n + m .element) (count + m .count)
+        → Measured case form pages (start + len) (page + 1) (n + m .element) (count + m .count) (respelled + r .respelled)
     turn-by (accepted fs) q b z =
         let i = ap (λ (y : Answer). y .element) b in
         let c = ap (λ (y : Answer). y .count) b in
@@ -192,6 +234,8 @@ module _ {case : List ℕ} {form pages start page n count : ℕ} (was : Measured
           read = read-turn (was .read) h e fs q;
           number = omega (arith, was .number, i, length-append (was .es) fs);
           counted = omega (arith, was .counted, c, given-length wordsOf (was .es) fs);
+          respelled = omega (arith, was .respelled, fifth z, fifth-few fs q, i);
+          added = omega (arith, on-page, fifth z);
         }
     turn-by (refusal r k p d) q b z =
         let i = ap (λ (y : Answer). y .number) b in absurd (omega (arith, i, has-number g the-page q))
@@ -202,11 +246,25 @@ module _ {case : List ℕ} {form pages start page n count : ℕ} (was : Measured
     stop-by (refusal r k p d) q b z =
         ap (beside page) b ∙ sym (ap (caseMeasured (length case)) (read-stop (was .read) h e r k p d q))
 
-    pub measure-turn : m .number ≡ 0 → Measured case form pages (start + len) (page + 1) (n + m .element) (count + m .count)
+    pub measure-turn : m .number ≡ 0
+        → Measured case form pages (start + len) (page + 1) (n + m .element) (count + m .count) (respelled + r .respelled)
     measure-turn = turn-by (readIn g the-page) refl by-page
 
-    pub measure-stop : (m .number ≡ 0 → ⊥) → beside page m ≡ caseMeasured (length case) (readCase case)
-    measure-stop = stop-by (readIn g the-page) refl by-page
+    pub measure-stop : (m .number ≡ 0 → ⊥)
+        → beside page m ≡ carryingCase (caseMeasured (length case) (readCase case)) (caseRespelled case)
+    measure-stop z = carried-none (beside page m) _ _ (stop-by (readIn g the-page) refl by-page z) z
 
-  pub measure-all : pages ≤ page → _≡_ {A = CaseAnswer} (beside 0 (answer 0 n start count)) (caseMeasured (length case) (readCase case))
-  measure-all h = rw (read-all (was .read) h, was .number, was .counted, read-end (was .read) h)
+  all-measured : pages ≤ page → _≡_ {A = CaseAnswer} (beside 0 (answer 0 n start count)) (caseMeasured (length case) (readCase case))
+  all-measured h = rw (read-all (was .read) h, was .number, was .counted, read-end (was .read) h)
+
+  all-added : pages ≤ page → respelled ≡ caseRespelled case
+  unfolding pagesRespelled
+  all-added h =
+      let none : drop page (pagesOf case) ≡ [] =
+      drop-of-length-le (pagesOf case) {i = page} (omega (arith, pages-counted (was .read .right))) in
+      sym (was .added ∙ ap (λ (l : List (ℕ × List ℕ)). respelled + pagesRespelled l) none ∙ add-zero respelled)
+
+  pub measure-all : pages ≤ page
+      → _≡_ {A = CaseAnswer} (record { answer = answer 0 n start count; respelled = respelled; page = 0 })
+      (carryingCase (caseMeasured (length case) (readCase case)) (caseRespelled case))
+  measure-all h = ap₂ carryingCase (all-measured h) (all-added h)

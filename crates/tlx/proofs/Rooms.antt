@@ -3,14 +3,16 @@
 -- Assumes nothing.
 use Prim.Native.Nat.{ℕ, _≤_, _<_}
 use mathlib.Core.Path.{_≡_, refl, sym, ap, ap₂, _∙_}
+use mathlib.Core.Bool.{Bool, true, false}
 use mathlib.Core.List.{List, [], _∷_}
 use native.Mathlib.Omega.{arith}
-use lib.Dec.{leb}
+use lib.Dec.{eqb, leb}
 use lib.ListN.{length}
 use Rattle.run.specs.Loops.{Numbered}
 use Rattle.run.specs.Head.{Outcome, accepted, refusal}
 use Rattle.run.specs.declared.Answer.{Answer}
 use Rattle.run.specs.Answers.{answer, bare, shortRoom, countOf, roomFor, writtenOf}
+use Rattle.run.specs.Choice.{pick}
 use Rattle.run.proofs.Choices.{pick-case}
 use Rattle.run.proofs.Rooms as rooms
 use Rattle.sorts.specs.declared.FormFound.{FormFound}
@@ -22,9 +24,10 @@ use Rattle.case_table.specs.declared.Header.the-variants.{Refused, Pages}
 use Rattle.case_table.specs.Check.{headerOf, pagesOf}
 use Rattle.tlx.specs.declared.CaseAnswer.{CaseAnswer}
 use Rattle.tlx.specs.CaseReading.{CaseOutcome, all, fault, joinPages, afterPage, readPage, readPages, readCase, turned}
-use Rattle.tlx.specs.CaseReading.{outcomeOf, pageOf, caseAnswer, caseMeasured, readCaseAnswer, readCaseWords}
-use Rattle.tlx.specs.CaseReadingNumbers.{beside}
-use Rattle.tlx.proofs.Pages.{case-is, has-number}
+use Rattle.tlx.specs.CaseReading.{outcomeOf, pageOf, caseAnswer, caseMeasured, readCaseAnswer, readCaseWords, caseRespelled}
+use Rattle.tlx.specs.CaseReading.{carryingCase, readCaseReading}
+use Rattle.tlx.specs.CaseReadingNumbers.{beside, withoutFifth}
+use Rattle.tlx.proofs.Pages.{case-is, has-number, carried-none}
 
 -- ---- a refusal has a number
 
@@ -61,19 +64,32 @@ no-page n (all es) z h = refl
 no-page n (fault g r e p d) z h = absurd (omega arith)
 
 module _ (case : List ℕ) (form pages : ℕ) (header : headerOf case ≡ Pages form pages) (l : List ℕ)
-    (a : CaseAnswer) (q : a ≡ caseMeasured (length case) (readCase case)) where
+    (five : CaseAnswer) (is : five ≡ carryingCase (caseMeasured (length case) (readCase case)) (caseRespelled case)) where
+  abbrev a : CaseAnswer
+  a = withoutFifth five
+
+  q : a ≡ caseMeasured (length case) (readCase case)
+  q = ap withoutFifth is
+
   abbrev x : Outcome Element
   x = outcomeOf (readCase case)
 
   abbrev m : Answer
   m = a .answer
 
+  -- the four numbers, and with them the fifth
+  with-fifth : (l : List ℕ) → a ≡ readCaseAnswer case (length l) → five ≡ readCaseReading case (length l)
+  with-fifth l p = is ∙ ap (λ (x : CaseAnswer). carryingCase x (caseRespelled case)) (sym q ∙ p)
+
   -- the first pass refused
-  pub refuses : (m .number ≡ 0 → ⊥) → (a ≡ readCaseAnswer case (length l)) × (l ≡ readCaseWords case l)
+  refuses-so : (m .number ≡ 0 → ⊥) → (a ≡ readCaseAnswer case (length l)) × (l ≡ readCaseWords case l)
   unfolding readCaseAnswer readCaseWords
-  refuses h =
+  refuses-so h =
       let r = rooms.refuses wordsOf (length case) l m x (ap (λ (y : CaseAnswer). y .answer) q) h in
       (ap₂ beside (ap (λ (y : CaseAnswer). y .page) q) (r .0), r .1)
+
+  pub refuses : (m .number ≡ 0 → ⊥) → (five ≡ readCaseReading case (length l)) × (l ≡ readCaseWords case l)
+  refuses h = let r = refuses-so h in (with-fifth l (r .0), r .1)
 
   module _ (h : m .number ≡ 0) where
     z : Numbered x
@@ -83,19 +99,26 @@ module _ (case : List ℕ) (form pages : ℕ) (header : headerOf case ≡ Pages 
     named = no-page (length case) (readCase case) z (sym (ap (λ (y : CaseAnswer). y .answer .number) q) ∙ h)
 
     -- the room is short
-    pub short : (s : Answer) → s ≡ shortRoom (m .count) → length l < m .count
+    short-so : (s : Answer) → s ≡ shortRoom (m .count) → length l < m .count
         → (_≡_ {A = CaseAnswer} (beside 0 s) (readCaseAnswer case (length l))) × (l ≡ readCaseWords case l)
     unfolding readCaseAnswer readCaseWords
-    short s e k =
+    short-so s e k =
         let r = rooms.short wordsOf (length case) l m x z (ap (λ (y : CaseAnswer). y .answer) q) h k in
         (ap₂ beside (sym named) (e ∙ r .0), r .1)
 
+    pub short : (s : Answer) → s ≡ shortRoom (m .count) → length l < m .count
+        → (_≡_ {A = CaseAnswer} (beside 0 s) (readCaseReading case (length l))) × (l ≡ readCaseWords case l)
+    short s e k =
+        let r = short-so s e k in
+        let n : s .number ≡ 0 → ⊥ = λ t. omega (arith, ap (λ (y : Answer). y .number) e) in
+        (carried-none (beside 0 s) _ _ (r .0) n, r .1)
+
     -- there is room
-    pub roomy : m .count ≤ length l → roomFor wordsOf (length l) x × (a ≡ readCaseAnswer case (length l))
+    pub roomy : m .count ≤ length l → roomFor wordsOf (length l) x × (five ≡ readCaseReading case (length l))
     unfolding readCaseAnswer
     roomy k =
         let r = rooms.roomy wordsOf (length case) l m x z (ap (λ (y : CaseAnswer). y .answer) q) h k in
-        (r .0, ap₂ beside (ap (λ (y : CaseAnswer). y .page) q) (r .1))
+        (r .0, with-fifth l (ap₂ beside (ap (λ (y : CaseAnswer). y .page) q) (r .1)))
 
 -- ---- a header that is refused
 
@@ -112,3 +135,19 @@ turned-answers case r l q =
       ap (λ (c : ℕ). beside 0 (answer r 0 0 c)) (sym c) ∙ sym (ap (caseAnswer (length case) (length l)) t),
       sym (ap (λ (y : CaseOutcome). writtenOf wordsOf l (outcomeOf y)) t),
     )
+
+-- with the fifth number, which is 0
+none-carried : (a : CaseAnswer) → withoutFifth a ≡ carryingCase (withoutFifth a) 0
+none-carried a = go (eqb (a .answer .number) 0)
+  where
+    go : (t : Bool) → _≡_ {A = CaseAnswer} (withoutFifth a) (record { answer = a .answer; respelled = pick t 0 0; page = a .page })
+    go true = refl
+    go false = refl
+
+pub turned-readings : (case : List ℕ) (r : ℕ) (l : List ℕ) → headerOf case ≡ Refused r
+    → (_≡_ {A = CaseAnswer} (beside 0 (bare r)) (readCaseReading case (length l))) × (l ≡ readCaseWords case l)
+unfolding caseRespelled
+turned-readings case r l q =
+    let t = turned-answers case r l q in
+    let k : caseRespelled case ≡ 0 = simp q in
+    (none-carried (beside 0 (bare r)) ∙ ap₂ carryingCase (t .0) (sym k), t .1)

@@ -1,19 +1,21 @@
 -- Proved equal to CaseReadingNumbers: what reading a case comes to, its answer and what the lent words hold after (proofs/Cases:
--- case-exactly); one page's answer (proofs/EachPage: page-row, of-page-row). A part of the code: `caseMeasured`.
+-- case-exactly), with its fifth number (proofs/Respelled: case-respelled-exactly); one page's answer (proofs/EachPage: page-row,
+-- of-page-row). A part of the code: `caseMeasured`.
 -- Assumes nothing.
 use Prim.Native.Nat.{ℕ, _+_}
 use mathlib.Core.List.{List, [], _∷_, _++_}
-use lib.Dec.{ltb}
+use lib.Dec.{eqb, ltb}
 use lib.ListN.{length, getD}
 use Rattle.run.specs.Choice.{pick}
 use Rattle.run.specs.Head.{Outcome, accepted, refusal}
 use Rattle.run.specs.declared.Answer.{Answer}
-use Rattle.run.specs.Answers.{given, answerOf, writtenOf, roomyAnswer}
+use Rattle.run.specs.declared.ReadAnswer.{ReadAnswer}
+use Rattle.run.specs.Answers.{given, carrying, answerOf, writtenOf, roomyAnswer}
 use Rattle.sorts.specs.Forms.{formOf, inForm}
 use Rattle.element_words.specs.declared.Element.{Element}
 use Rattle.element_words.specs.Words.{wordsOf}
 use Rattle.text_loops.specs.Fronts.{readIn}
-use Rattle.text_reading.specs.ReadAnswers.{readAnswer}
+use Rattle.text_reading.specs.ReadAnswers.{readAnswer, respelledIn}
 use Rattle.case_table.specs.declared.Header.{Header}
 use Rattle.case_table.specs.declared.Header.the-variants.{Refused, Pages}
 use Rattle.case_table.specs.Check.{headerOf, pagesOf}
@@ -81,7 +83,22 @@ caseAnswer size room x = beside (pageOf x) (answerOf wordsOf size room (outcomeO
 unfoldable pub readCaseAnswer : List ℕ → ℕ → CaseAnswer
 readCaseAnswer case room = caseAnswer (length case) room (readCase case)
 
--- the words "written one page after another", and then the untouched rest; on any refusal the buffer as it stood
+-- ---- the fifth number (document 02, No. 5): the pages' numbers, added; an accepted case carries it, and a refusal 0
+
+unfoldable pub pagesRespelled : List (ℕ × List ℕ) → ℕ
+pagesRespelled [] = 0
+pagesRespelled (page ∷ pages) = respelledIn (page .0) (page .1) + pagesRespelled pages
+
+unfoldable pub caseRespelled : List ℕ → ℕ
+caseRespelled case = byHeader (headerOf case) (λ r. 0) (λ form n. pagesRespelled (pagesOf case))
+
+abbrev pub carryingCase : CaseAnswer → ℕ → CaseAnswer
+carryingCase a k = record { answer = a .answer; respelled = pick (eqb (a .answer .number) 0) k 0; page = a .page }
+
+abbrev pub readCaseReading : List ℕ → ℕ → CaseAnswer
+readCaseReading case room = carryingCase (readCaseAnswer case room) (caseRespelled case)
+
+-- ---- the words "written one page after another", and then the untouched rest; on any refusal the buffer as it stood
 unfoldable pub readCaseWords : List ℕ → List ℕ → List ℕ
 readCaseWords case words = writtenOf wordsOf words (outcomeOf (readCase case))
 
@@ -96,11 +113,15 @@ pageWords (refusal r n p d) = []
 abbrev pub aloneAnswer : ℕ × List ℕ → Answer
 aloneAnswer page = readAnswer (page .0) (page .1) (length (page .1))
 
+-- with its fifth number
+abbrev pub aloneReading : ℕ × List ℕ → ReadAnswer
+aloneReading page = carrying (aloneAnswer page) (respelledIn (page .0) (page .1))
+
 -- the case's own refusal; else the page's answer
 unfoldable pub pageAnswer : List ℕ → ℕ → Page
 pageAnswer case page =
-    byHeader (headerOf case) (λ r. Is (headerAnswer (Refused r)))
-    (λ form n. pick (ltb page n) (Is (aloneAnswer (getD (pagesOf case) page (form, [])))) NoPage)
+    byHeader (headerOf case) (λ r. Is (carrying (headerAnswer (Refused r)) 0))
+    (λ form n. pick (ltb page n) (Is (aloneReading (getD (pagesOf case) page (form, [])))) NoPage)
 
 -- ---- parts of the code
 

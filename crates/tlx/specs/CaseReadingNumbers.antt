@@ -1,19 +1,23 @@
 -- To be believed: document 01's table of numbers and its order of refusals, for reading a case: which numbers are given, with which page,
 -- and what the lent buffer holds after; and the same of one page. Nothing here speaks of a reader.
 -- Assumes nothing.
-use Prim.Native.Nat.{ℕ, _≤_, _<_}
+use Prim.Native.Nat.{ℕ, _+_, _≤_, _<_}
 use mathlib.Core.Path.{_≡_}
 use mathlib.Core.List.{List, [], _∷_, _++_}
 use lib.ListN.{length, getD}
-use Rattle.run.specs.Grammar.{RunOf}
+use Rattle.run.specs.Grammar.{Run, RunOf}
+use Rattle.run.specs.Tally.{Apart}
 use Rattle.run.specs.declared.Answer.{Answer}
+use Rattle.run.specs.declared.ReadAnswer.{ReadAnswer}
 use Rattle.run.specs.Answers.{answer, bare, shortRoom, countOf, given, over}
 use Rattle.sorts.specs.declared.Form.{Form}
 use Rattle.sorts.specs.declared.FormFound.the-variants.{Is}
 use Rattle.sorts.specs.Forms.{formOf}
 use Rattle.element_words.specs.declared.Element.{Element}
 use Rattle.element_words.specs.Words.{wordsOf}
+use Rattle.element_spelling.specs.ElementOctets.{CanonicalElement}
 use Rattle.element_reading.specs.Grammar.{Spells}
+use Rattle.element_reading.specs.ElementNumbers.{reading}
 use Rattle.text_reading.specs.ReadingNumbers.{ReadingFault}
 use Rattle.case_table.specs.Grammar.{CaseOf, Turned}
 use Rattle.tlx.specs.declared.CaseAnswer.{CaseAnswer}
@@ -58,9 +62,13 @@ pub data RefusedCase (case : List ℕ) : ℕ → ℕ → ℕ → ℕ → ℕ →
 abbrev pub Size : List Element → ℕ
 Size es = length (given wordsOf es)
 
--- an answer, and the page beside it
+-- an answer, and the page beside it; the fifth number of an accepted case is `PagesApart`'s, and stands here as 0
 abbrev pub beside : ℕ → Answer → CaseAnswer
-beside page a = record { answer = a; page = page }
+beside page a = record { answer = a; respelled = 0; page = page }
+
+-- the four numbers of an answer and its page, without the fifth
+abbrev pub withoutFifth : CaseAnswer → CaseAnswer
+withoutFifth a = beside (a .page) (a .answer)
 
 -- "13, 14, 11, 15, then pages from the first .., then 9"
 pub data CaseTable (case words : List ℕ) : CaseAnswer → List ℕ → Type 0 where
@@ -87,23 +95,31 @@ pub record CaseTells (case words : List ℕ) (a : CaseAnswer) (after : List ℕ)
   pub not-12 : a .answer .number ≡ 12 → ⊥
   pub kept : (a .answer .number ≡ 0 → ⊥) → after ≡ words
 
+-- ---- document 02, No. 5: how many elements of some pages are not canonical, page after page
+
+pub data PagesApart (f : Form) : List (List ℕ) → ℕ → Type 0 where
+  none : PagesApart f [] 0
+  more : {page : List ℕ} {pages ps : List (List ℕ)} {es : List Element} {k j : ℕ} → Run (Spells f) page ps es
+      → Apart (CanonicalElement f) ps es k → PagesApart f pages j → PagesApart f (page ∷ pages) (k + j)
+
 -- ---- one page
 
--- 01's number and values of each answer: its four numbers; 01 has none for a page that is not in the case
-abbrev pub pageValues : Page → List Answer
+-- 01's number and values of each answer: its four numbers, and the fifth; 01 has none for a page that is not in the case
+abbrev pub pageValues : Page → List ReadAnswer
 pageValues (IsPage a) = a ∷ []
 pageValues NoPage = []
 
 -- the case's own refusal; else the page's octets, as a text by themselves, with room enough; no numbers where there is no such page
-pub data PageTable (case : List ℕ) (page : ℕ) : List Answer → Type 0 where
+pub data PageTable (case : List ℕ) (page : ℕ) : List ReadAnswer → Type 0 where
   -- "13, 14, 11, 15"
-  of-case : {r : ℕ} → Turned case r → PageTable case page (bare r ∷ [])
+  of-case : {r : ℕ} → Turned case r → PageTable case page (reading (bare r) 0 ∷ [])
   -- the case has fewer pages
   no-page : {form : ℕ} {pages : List (List ℕ)} → CaseOf case form pages → length pages ≤ page → PageTable case page []
   -- "places and elements counted from its start"
   refused : {form : ℕ} {f : Form} {pages : List (List ℕ)} {r n p d : ℕ} → formOf form ≡ Is f → CaseOf case form pages
-      → page < length pages → ReadingFault f (getD pages page []) r n p d → PageTable case page (answer r n p (countOf r d) ∷ [])
-  -- "0, elements, input length, entries written", as with room enough
-  accepted : {form : ℕ} {f : Form} {pages : List (List ℕ)} {es : List Element} → formOf form ≡ Is f → CaseOf case form pages
-      → page < length pages → RunOf (Spells f) (getD pages page []) es
-      → PageTable case page (answer 0 (length es) (length (getD pages page [])) (Size es) ∷ [])
+      → page < length pages → ReadingFault f (getD pages page []) r n p d
+      → PageTable case page (reading (answer r n p (countOf r d)) 0 ∷ [])
+  -- "0, elements, input length, entries written", as with room enough; and how many of its pieces are not canonical
+  accepted : {form : ℕ} {f : Form} {pages ps : List (List ℕ)} {es : List Element} {k : ℕ} → formOf form ≡ Is f → CaseOf case form pages
+      → page < length pages → Run (Spells f) (getD pages page []) ps es → Apart (CanonicalElement f) ps es k
+      → PageTable case page (reading (answer 0 (length es) (length (getD pages page [])) (Size es)) k ∷ [])

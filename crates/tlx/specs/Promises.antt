@@ -10,7 +10,7 @@ use Rattle.case_table.specs.Grammar.{Octets}
 use Rattle.tlx.specs.declared.CaseAnswer.{CaseAnswer}
 use Rattle.tlx.specs.declared.Page.{Page}
 use Rattle.tlx.specs.CaseReadingNumbers.{pageValues, PageTable}
-use Rattle.tlx.specs.CaseReading.{readCaseAnswer, readCaseWords, pageAnswer}
+use Rattle.tlx.specs.CaseReading.{readCaseReading, readCaseWords, pageAnswer}
 
 -- one page's answer, and its row of 01's numbers, or of none where there is no such page; the entries of the case are octets
 abbrev pub PageElementsPromise : List ℕ → ℕ → Page → Type 0
@@ -18,4 +18,4 @@ PageElementsPromise case page r = (r ≡ pageAnswer case page) × PageTable case
 
 -- a case, read; its entries are octets
 abbrev pub ReadCasePromise : List ℕ → List ℕ → CaseAnswer → List ℕ → Type 0
-ReadCasePromise case words r after = (r ≡ readCaseAnswer case (length words)) × (after ≡ readCaseWords case words) × Octets case
+ReadCasePromise case words r after = (r ≡ readCaseReading case (length words)) × (after ≡ readCaseWords case words) × Octets case

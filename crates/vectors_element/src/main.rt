@@ -3,7 +3,8 @@
 //
 // A file has a heading and a line a vector: octets or words, a place, and the answer there, with commas between. An answer is
 // `00E9 > 02`, an element's words and the place after it; `!03 00 01`, a refusal's number in decimal, place and count; or `.`,
-// none is left. Where words are asked, the element's spelling in each form follows, `-` where the form does not hold it.
+// none is left. Where octets are read, 00 follows the place if they are the element's canonical spelling, and 01 if they are not.
+// Where words are asked, the element's spelling in each form follows, `-` where the form does not hold it.
 // In an answer of ours `?` stands after what is not put as it should be: in number, with room for just it, with too little room,
 // or with the entries around it left alone.
 mod spelt;
@@ -40,9 +41,20 @@ fn put_read(out: &mut [u8], e: Element, next: usize) -> usize {
     put_after_space(out, second, next)
 }
 
+// 00, or 01 where the element was not canonical.
+fn put_canonical(out: &mut [u8], at: usize, canonical: bool) -> usize {
+    if canonical {
+        return put_after_space(out, at, 0);
+    }
+    put_after_space(out, at, 1)
+}
+
 fn put_step(out: &mut [u8], step: Step) -> usize {
     match step {
-        Step::Element(e, next) => put_read(out, e, next),
+        Step::Element(e, next, canonical) => {
+            let at = put_read(out, e, next);
+            put_canonical(out, at, canonical)
+        }
         Step::Refused {
             number,
             place,
@@ -111,6 +123,7 @@ fn main() {
     run_file(b"read_2.csv", Asked::Reading(Form::Seven));
     run_file(b"read_3.csv", Asked::Reading(Form::Basic));
     run_file(b"sequences.csv", Asked::Reading(Form::Basic));
+    run_file(b"spelt_sequences.csv", Asked::Reading(Form::Basic));
     run_file(b"characters.csv", Asked::Words);
     run_file(b"words.csv", Asked::Words);
 }

@@ -32,7 +32,7 @@ pub(crate) fn carry_in(line: &[u8]) -> Carry {
             place: number_in(field(line, 3)) as usize,
             count: number_in(field(line, 4)) as usize,
         },
-        spare: number_in(field(line, 5)) as usize,
+        respelled: number_in(field(line, 5)) as usize,
         holds: number_in(field(line, 6)) as usize,
         form: number_in(field(line, 7)),
         stopped: number_in(field(line, 8)),
@@ -46,6 +46,7 @@ fn feed_into(carry: Carry, piece: &[u8], ended: bool, words: &mut [u32], entries
         return Fed {
             carry,
             answer: unasked(),
+            respelled: 0,
             handed: 0,
         };
     }
@@ -69,8 +70,8 @@ fn put_held(out: &mut [u8], at: usize, held: &[u8; 39]) -> usize {
 
 fn put_carry(out: &mut [u8], at: usize, carry: Carry) -> usize {
     let four = put_numbers(out, at, carry.answer);
-    let spare = put_after_space(out, four, carry.spare);
-    let holds = put_after_space(out, spare, carry.holds);
+    let five = put_after_space(out, four, carry.respelled);
+    let holds = put_after_space(out, five, carry.holds);
     let form = put_after_space(out, holds, carry.form as usize);
     let stopped = put_after_space(out, form, carry.stopped as usize);
     let held = carry.held;
@@ -80,8 +81,9 @@ fn put_carry(out: &mut [u8], at: usize, carry: Carry) -> usize {
 // The outcome of a call, with the words that it handed out.
 pub(crate) fn put_fed(out: &mut [u8], at: usize, fed: Fed, words: &[u32]) -> usize {
     let four = put_numbers(out, at, fed.answer);
-    let five = put_after_space(out, four, fed.handed);
-    let first = put(out, five, b'/');
+    let five = put_after_space(out, four, fed.respelled);
+    let six = put_after_space(out, five, fed.handed);
+    let first = put(out, six, b'/');
     let second = put_words(out, first, words, fed.handed);
     let third = put(out, second, b'/');
     let last = put_carry(out, third, fed.carry);

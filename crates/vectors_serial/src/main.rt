@@ -2,10 +2,11 @@
 // and the first few of these in full. The vectors are made from a model of the documents, never from our code.
 //
 // A file has a heading and a line a vector, with commas between: where a page starts, the calls, and the outcome of each. A page starts
-// with the form that it is made fresh with, and then making fresh is the first outcome; or, in carry.csv, with the fields of a carry.
-// A call is its piece, the room that is lent, and 1 if the page ends; `;` stands between calls. An outcome is the four numbers of the answer
-// and how many words were handed out; these words; and the carry that the call leaves, with `/` between the three and `;` behind. Its
-// `held` goes up to the last entry that is not 0. The first number of an answer that is expected is in decimal, everything else in hex.
+// with the form that it is made fresh with, and then making fresh is the first outcome; or, in carry.csv and respelled.csv, with the
+// fields of a carry. A call is its piece, the room that is lent, and 1 if the page ends; `;` stands between calls. An outcome is the five
+// numbers of the answer and how many words were handed out; these words; and the carry that the call leaves, with `/` between the three and
+// `;` behind. Its `held` goes up to the last entry that is not 0. The first number of an answer that is expected is in decimal, everything
+// else in hex.
 // In an outcome of ours `?` stands where an entry that should be left alone is not, within the room or past it.
 mod calls;
 
@@ -63,4 +64,5 @@ fn main() {
     run_file(b"room_3.csv", Start::Form);
     run_file(b"form.csv", Start::Form);
     run_file(b"carry.csv", Start::Carry);
+    run_file(b"respelled.csv", Start::Carry);
 }

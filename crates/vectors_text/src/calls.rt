@@ -4,6 +4,7 @@ use element_words::Element;
 use lines::answer::put;
 use lines::answer::put_after_space;
 use lines::answer::put_answer;
+use lines::answer::put_read_answer;
 use lines::answer::put_refusal;
 use lines::answer::unasked;
 use lines::answer::written;
@@ -14,12 +15,20 @@ use lines::room::fill_words;
 use lines::room::put_octets;
 use lines::room::put_words;
 use run::Answer;
+use run::ReadAnswer;
 
-fn read_into(form: u32, octets: &[u8], words: &mut [u32], room: usize) -> Answer {
+fn read_into(form: u32, octets: &[u8], words: &mut [u32], room: usize) -> ReadAnswer {
     if words.len() < room {
-        return unasked();
+        return run::reading_of(unasked(), 0);
     }
     text::read(form, octets, &mut words[0..room])
+}
+
+fn one_into(form: u32, octets: &[u8], at: usize, words: &mut [u32], room: usize) -> ReadAnswer {
+    if words.len() < room {
+        return run::reading_of(unasked(), 0);
+    }
+    text::read_one(form, octets, at, &mut words[0..room])
 }
 
 fn write_into(form: u32, words: &[u32], octets: &mut [u8], room: usize) -> Answer {
@@ -29,9 +38,15 @@ fn write_into(form: u32, words: &[u32], octets: &mut [u8], room: usize) -> Answe
     text::write(form, words, &mut octets[0..room])
 }
 
-fn convert_into(source: u32, target: u32, octets: &[u8], out: &mut [u8], room: usize) -> Answer {
+fn convert_into(
+    source: u32,
+    target: u32,
+    octets: &[u8],
+    out: &mut [u8],
+    room: usize,
+) -> ReadAnswer {
     if out.len() < room {
-        return unasked();
+        return run::reading_of(unasked(), 0);
     }
     text::convert(source, target, octets, &mut out[0..room])
 }
@@ -42,9 +57,26 @@ pub(crate) fn answer_reading(out: &mut [u8], form: u32, entries: &[u8], room: us
     let n = octets_in(entries, &mut octets);
     let mut words = [0; 512];
     fill_words(&mut words);
-    let answer = read_into(form, &octets[..n], &mut words, room);
-    let next = put_answer(out, answer);
-    put_words(out, next, &words, written(answer))
+    let reading = read_into(form, &octets[..n], &mut words, room);
+    let next = put_read_answer(out, reading);
+    put_words(out, next, &words, written(reading.answer))
+}
+
+// One element's answer, and the words that it puts.
+pub(crate) fn answer_one(
+    out: &mut [u8],
+    form: u32,
+    entries: &[u8],
+    at: usize,
+    room: usize,
+) -> usize {
+    let mut octets = [0; 512];
+    let n = octets_in(entries, &mut octets);
+    let mut words = [0; 512];
+    fill_words(&mut words);
+    let reading = one_into(form, &octets[..n], at, &mut words, room);
+    let next = put_read_answer(out, reading);
+    put_words(out, next, &words, written(reading.answer))
 }
 
 // The words' answer, and the octets that it puts.
@@ -71,25 +103,29 @@ pub(crate) fn answer_converting(
     let n = octets_in(entries, &mut octets);
     let mut converted = [0; 1024];
     fill_octets(&mut converted);
-    let answer = convert_into(pair[0], pair[1], &octets[..n], &mut converted, room);
-    let next = put_answer(out, answer);
-    put_octets(out, next, &converted, written(answer))
+    let reading = convert_into(pair[0], pair[1], &octets[..n], &mut converted, room);
+    let next = put_read_answer(out, reading);
+    put_octets(out, next, &converted, written(reading.answer))
 }
 
-// The element's words, and the place after it.
-fn put_read(out: &mut [u8], e: Element, next: usize) -> usize {
+// The element's words, the place after it, and 00, or 01 where it was not canonical.
+fn put_read(out: &mut [u8], e: Element, next: usize, canonical: bool) -> usize {
     let mut words = [0; 16];
     fill_words(&mut words);
     let n = element_words::put_words(e, &mut words, 0);
     let first = put_words(out, 0, &words, n);
     let second = put(out, first, b' ');
     let third = put(out, second, b'>');
-    put_after_space(out, third, next)
+    let fourth = put_after_space(out, third, next);
+    if canonical {
+        return put_after_space(out, fourth, 0);
+    }
+    put_after_space(out, fourth, 1)
 }
 
 fn put_step(out: &mut [u8], step: Step) -> usize {
     match step {
-        Step::Element(e, next) => put_read(out, e, next),
+        Step::Element(e, next, canonical) => put_read(out, e, next, canonical),
         Step::Refused {
             number,
             place,

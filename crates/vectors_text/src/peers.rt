@@ -98,7 +98,8 @@ fn compare_first(form: u32, ours: &[u32], n: usize, theirs: &[u32]) -> Verdict {
 
 fn compare_reading(form: u32, octets: &[u8], theirs: &[u32]) -> Verdict {
     let mut words = [0; 256];
-    let answer = text::read(form, octets, &mut words);
+    let reading = text::read(form, octets, &mut words);
+    let answer = reading.answer;
     if answer.number != 0 {
         return Verdict::Otherwise;
     }
@@ -107,7 +108,8 @@ fn compare_reading(form: u32, octets: &[u8], theirs: &[u32]) -> Verdict {
 
 fn is_accepted(form: u32, octets: &[u8]) -> bool {
     let mut words = [0; 256];
-    let answer = text::read(form, octets, &mut words);
+    let reading = text::read(form, octets, &mut words);
+    let answer = reading.answer;
     answer.number == 0
 }
 

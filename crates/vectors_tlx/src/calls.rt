@@ -9,6 +9,7 @@ use lines::answer::put_answer;
 use lines::answer::put_number;
 use lines::answer::put_numbers;
 use lines::answer::put_place;
+use lines::answer::put_reading;
 use lines::answer::unasked;
 use lines::answer::written;
 use lines::fields::field;
@@ -24,9 +25,13 @@ use tlx::CaseAnswer;
 use tlx::Header;
 use tlx::Page;
 
-// An answer of four numbers, with page 0 beside it.
+// An answer of four numbers, with 0 as the fifth and page 0 beside it.
 fn with_no_page(answer: Answer) -> CaseAnswer {
-    CaseAnswer { answer, page: 0 }
+    CaseAnswer {
+        answer,
+        respelled: 0,
+        page: 0,
+    }
 }
 
 fn read_into(case: &[u8], words: &mut [u32], room: usize) -> CaseAnswer {
@@ -50,17 +55,17 @@ fn write_sizes_in(form: u32, sizes: &[u8], octets: &[u8], case: &mut [u8], room:
     write_into(form, &lengths[..n], octets, case, room)
 }
 
-// The five numbers, and a comma.
+// The five numbers, the page, and a comma.
 fn put_case_answer(out: &mut [u8], answer: CaseAnswer) -> usize {
-    let numbers = answer.answer;
-    let four = put_numbers(out, 0, numbers);
-    let five = put_after_space(out, four, answer.page);
-    put(out, five, b',')
+    let four = put_numbers(out, 0, answer.answer);
+    let five = put_after_space(out, four, answer.respelled);
+    let six = put_after_space(out, five, answer.page);
+    put(out, six, b',')
 }
 
 fn put_page(out: &mut [u8], page: Page) -> usize {
     match page {
-        Page::Is(answer) => put_numbers(out, 0, answer),
+        Page::Is(answer) => put_reading(out, 0, answer),
         Page::NoPage => put(out, 0, b'.'),
     }
 }

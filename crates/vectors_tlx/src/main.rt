@@ -2,8 +2,8 @@
 // and the first few of these in full. The vectors are made from a model of the documents, never from our code.
 //
 // A file has a heading and a line a vector, with commas between.
-// Reading: the case, the room that is lent, the four numbers of the answer and the page beside them, and the words that it puts.
-// One page: the case, the page's number, and the four numbers of its answer, or `.`, no such page.
+// Reading: the case, the room that is lent, the five numbers of the answer and the page beside them, and the words that it puts.
+// One page: the case, the page's number, and the five numbers of its answer, or `.`, no such page.
 // The header: the case, and its form and how many pages, or `!13`, a refusal's number.
 // Writing: the form, the lengths, the page octets, the room, the four numbers of the answer, and the case that it puts.
 // The number of an answer is in decimal, and everything else in hex. Lists of long cases are written as runs (`runs`).
@@ -56,6 +56,8 @@ fn main() {
     run_file(b"page_1.csv", Asked::OnePage, false);
     run_file(b"page_2.csv", Asked::OnePage, false);
     run_file(b"page_3.csv", Asked::OnePage, false);
+    run_file(b"read_respelled.csv", Asked::Reading, false);
+    run_file(b"page_respelled.csv", Asked::OnePage, false);
     run_file(b"header.csv", Asked::HeaderAlone, false);
     run_file(b"write_1.csv", Asked::Writing, false);
     run_file(b"write_2.csv", Asked::Writing, false);

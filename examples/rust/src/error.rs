@@ -43,7 +43,7 @@ pub enum Refusal {
 pub struct Error {
     /// What is wrong.
     pub refusal: Refusal,
-    /// How many elements stand before the refused one.
+    /// How many elements stand before the refused one; 0 of [`element_at`](crate::element_at), which reads it by itself.
     pub element: usize,
     /// The place of the refused element's first octet or word.
     pub place: usize,
@@ -55,13 +55,13 @@ pub struct Error {
 
 impl Error {
     /// The error that an answer is, if it is one.
-    pub(crate) fn of(answer: &CaseAnswer) -> Option<Error> {
+    pub(crate) fn of(said: &CaseAnswer) -> Option<Error> {
         Some(Error {
-            refusal: Refusal::of(answer.number)?,
-            element: answer.element,
-            place: answer.place,
-            count: answer.count,
-            page: answer.page,
+            refusal: Refusal::of(said.answer.number)?,
+            element: said.answer.element,
+            place: said.answer.place,
+            count: said.answer.count,
+            page: said.page,
         })
     }
 

@@ -4,19 +4,28 @@
 //! that is not of the form is an [`Error`], which names the octet and its place. A page that comes in pieces is a [`Serial`]; what changed
 //! between two texts is a [`Compared`].
 //!
+//! Some elements have more than one spelling in a form, and each has one that is canonical, which [`write()`] gives. Every spelling is read;
+//! what is read or converted says how many were not canonical, and [`element_at`] says it of one.
+//!
 //! ```no_run
 //! use oakentwirl::Form;
 //!
-//! assert_eq!(oakentwirl::read(Form::Eight, b"\xC2e"), Ok(vec![0xE9]));
-//! assert_eq!(oakentwirl::convert(Form::Eight, Form::Seven, b"\xC2e"), Ok(b"\x19Be".to_vec()));
+//! let read = oakentwirl::read(Form::Eight, b"\xC2e")?;
+//! assert_eq!((read.words, read.respelled), (vec![0xE9], 0));
+//! // In eight bits the circumflex by itself is canonically 5E.
+//! let converted = oakentwirl::convert(Form::Eight, Form::Seven, b"2\xC3 8 caf\xC2e")?;
+//! assert_eq!((converted.text, converted.respelled), (b"2^8 caf\x19Be".to_vec(), 1));
+//! # Ok::<(), oakentwirl::Error>(())
 //! ```
 
 mod compare;
+mod element;
 mod error;
 mod library;
 mod serial;
 
 pub use compare::{compare, CompareError, Compared, Which};
+pub use element::{element_at, Element};
 pub use error::{Error, Refusal};
 use library::CaseAnswer;
 pub use serial::{Serial, Totals};
@@ -32,9 +41,28 @@ pub enum Form {
     Basic = 3,
 }
 
-/// Reads a whole text: its words.
-pub fn read(form: Form, text: &[u8]) -> Result<Vec<u32>, Error> {
-    sized(|words: &mut [u32]| {
+/// What a text or a case says: [`read`] and [`read_case`] give it.
+#[derive(Clone, Debug, PartialEq, Eq)]
+pub struct Reading {
+    /// Its words.
+    pub words: Vec<u32>,
+    /// How many of its elements did not stand in their form's canonical spelling.
+    pub respelled: usize,
+}
+
+/// What a text was converted to: [`convert`] gives it.
+#[derive(Clone, Debug, PartialEq, Eq)]
+pub struct Conversion {
+    /// The text in the target form, in its canonical spelling.
+    pub text: Vec<u8>,
+    /// How many elements did not stand in the source form's canonical spelling. At 0, converting back, within the limit, gives the text that
+    /// there was; else so many spellings cannot be had back, and [`element_at`] finds them in the text as it came.
+    pub respelled: usize,
+}
+
+/// Reads a whole text.
+pub fn read(form: Form, text: &[u8]) -> Result<Reading, Error> {
+    let (words, respelled) = sized(|words: &mut [u32]| {
         // SAFETY: each pointer is a slice's, with its length, and `words` is lent as `mut`, so it overlaps nothing.
         unsafe {
             library::oak_read(
@@ -46,12 +74,13 @@ pub fn read(form: Form, text: &[u8]) -> Result<Vec<u32>, Error> {
             )
         }
         .into()
-    })
+    })?;
+    Ok(Reading { words, respelled })
 }
 
 /// Writes a list of words: their canonical spelling in the form.
 pub fn write(form: Form, words: &[u32]) -> Result<Vec<u8>, Error> {
-    sized(|text: &mut [u8]| {
+    let (text, _) = sized(|text: &mut [u8]| {
         // SAFETY: as in `read`.
         unsafe {
             library::oak_write(
@@ -63,12 +92,13 @@ pub fn write(form: Form, words: &[u32]) -> Result<Vec<u8>, Error> {
             )
         }
         .into()
-    })
+    })?;
+    Ok(text)
 }
 
 /// Converts a whole text to another form, or to its canonical spelling where the forms are the same.
-pub fn convert(source: Form, target: Form, text: &[u8]) -> Result<Vec<u8>, Error> {
-    sized(|out: &mut [u8]| {
+pub fn convert(source: Form, target: Form, text: &[u8]) -> Result<Conversion, Error> {
+    let (text, respelled) = sized(|out: &mut [u8]| {
         // SAFETY: as in `read`.
         unsafe {
             library::oak_convert(
@@ -81,17 +111,19 @@ pub fn convert(source: Form, target: Form, text: &[u8]) -> Result<Vec<u8>, Error
             )
         }
         .into()
-    })
+    })?;
+    Ok(Conversion { text, respelled })
 }
 
-/// Reads a TLX case: the words of its pages, one page after another.
-pub fn read_case(case: &[u8]) -> Result<Vec<u32>, Error> {
-    sized(|words: &mut [u32]| {
+/// Reads a TLX case: the words of its pages, one page after another, and how many elements of all pages were not canonical.
+pub fn read_case(case: &[u8]) -> Result<Reading, Error> {
+    let (words, respelled) = sized(|words: &mut [u32]| {
         // SAFETY: as in `read`.
         unsafe {
             library::oak_case_read(case.as_ptr(), case.len(), words.as_mut_ptr(), words.len())
         }
-    })
+    })?;
+    Ok(Reading { words, respelled })
 }
 
 /// Writes a TLX case with these pages, which are not read.
@@ -102,7 +134,7 @@ pub fn write_case(form: Form, pages: &[&[u8]]) -> Result<Vec<u8>, Error> {
         .iter()
         .map(|page| page.len().try_into().unwrap_or(u32::MAX))
         .collect();
-    sized(|case: &mut [u8]| {
+    let (case, _) = sized(|case: &mut [u8]| {
         // SAFETY: as in `read`.
         unsafe {
             library::oak_case_write(
@@ -116,21 +148,23 @@ pub fn write_case(form: Form, pages: &[&[u8]]) -> Result<Vec<u8>, Error> {
             )
         }
         .into()
-    })
+    })?;
+    Ok(case)
 }
 
-/// Asks with no room at all, and where that is short asks again with the room that is needed.
+/// Asks with no room at all, and where that is short asks again with the room that is needed: what was written, and how many elements were
+/// respelled.
 fn sized<Entry: Clone + Default>(
     ask: impl Fn(&mut [Entry]) -> CaseAnswer,
-) -> Result<Vec<Entry>, Error> {
+) -> Result<(Vec<Entry>, usize), Error> {
     let mut entries = Vec::new();
-    let mut answer = ask(&mut entries);
-    if answer.number == library::SHORT_ROOM {
-        entries.resize(answer.count, Entry::default());
-        answer = ask(&mut entries);
+    let mut said = ask(&mut entries);
+    if said.answer.number == library::SHORT_ROOM {
+        entries.resize(said.answer.count, Entry::default());
+        said = ask(&mut entries);
     }
-    match Error::of(&answer) {
+    match Error::of(&said) {
         Some(error) => Err(error),
-        None => Ok(entries),
+        None => Ok((entries, said.respelled)),
     }
 }

@@ -1,4 +1,11 @@
-//! The library's functions as `include/oakentwirl.h` declares them. Nothing checks these declarations against that file.
+//! The library's functions as `include/oakentwirl.h` declares them. Nothing checks these declarations against that file but the sizes of
+//! what is given, which are its version 2's.
+
+use std::mem::size_of;
+
+const _: () = assert!(size_of::<Answer>() == 32 && size_of::<ReadAnswer>() == 40);
+const _: () = assert!(size_of::<CaseAnswer>() == 48 && size_of::<Comparison>() == 88);
+const _: () = assert!(size_of::<Carry>() == 96 && size_of::<Fed>() == 144);
 
 /// The four numbers of an answer.
 #[repr(C)]
@@ -10,13 +17,18 @@ pub struct Answer {
     pub count: usize,
 }
 
+/// `oak_reading`: the four numbers, and how many elements were not canonical.
+#[repr(C)]
+pub struct ReadAnswer {
+    pub answer: Answer,
+    pub respelled: usize,
+}
+
 /// The same, and the page that is refused.
 #[repr(C)]
 pub struct CaseAnswer {
-    pub number: usize,
-    pub element: usize,
-    pub place: usize,
-    pub count: usize,
+    pub answer: Answer,
+    pub respelled: usize,
     pub page: usize,
 }
 
@@ -25,18 +37,18 @@ pub struct CaseAnswer {
 #[derive(Clone, Copy, Debug)]
 pub struct Carry {
     answer: Answer,
-    spare: usize,
+    respelled: usize,
     holds: usize,
     form: u32,
     stopped: u32,
     held: [u8; MOST_HELD],
 }
 
-/// The carry for the next call, the four numbers, and how many words were handed out.
+/// The carry for the next call, the five numbers, and how many words were handed out.
 #[repr(C)]
 pub struct Fed {
     pub carry: Carry,
-    pub answer: Answer,
+    pub answer: ReadAnswer,
     pub handed: usize,
 }
 
@@ -55,17 +67,20 @@ pub struct Comparison {
 
 impl From<Answer> for CaseAnswer {
     fn from(answer: Answer) -> Self {
-        let Answer {
-            number,
-            element,
-            place,
-            count,
-        } = answer;
         CaseAnswer {
-            number,
-            element,
-            place,
-            count,
+            answer,
+            respelled: 0,
+            page: 0,
+        }
+    }
+}
+
+impl From<ReadAnswer> for CaseAnswer {
+    fn from(read: ReadAnswer) -> Self {
+        let ReadAnswer { answer, respelled } = read;
+        CaseAnswer {
+            answer,
+            respelled,
             page: 0,
         }
     }
@@ -77,6 +92,9 @@ pub const SHORT_ROOM: usize = 9;
 /// `OAK_MOST_HELD`.
 pub const MOST_HELD: usize = 39;
 
+/// `OAK_MOST_WORDS`.
+pub const MOST_WORDS: usize = 9;
+
 extern "C" {
     pub fn oak_read(
         form: u32,
@@ -84,7 +102,15 @@ extern "C" {
         text_len: usize,
         words: *mut u32,
         words_len: usize,
-    ) -> Answer;
+    ) -> ReadAnswer;
+    pub fn oak_element(
+        form: u32,
+        text: *const u8,
+        text_len: usize,
+        at: usize,
+        words: *mut u32,
+        words_len: usize,
+    ) -> ReadAnswer;
     pub fn oak_fresh(form: u32) -> Fed;
     pub fn oak_feed(
         carry: Carry,
@@ -108,7 +134,7 @@ extern "C" {
         text_len: usize,
         out: *mut u8,
         out_len: usize,
-    ) -> Answer;
+    ) -> ReadAnswer;
     pub fn oak_compare(
         form: u32,
         first: *const u8,

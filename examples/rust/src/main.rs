@@ -2,11 +2,12 @@
 //!
 //!     convert SOURCE TARGET FILE OUTPUT
 //!
-//! SOURCE and TARGET are 1 (T51String in eight bits), 2 (in seven bits) or 3 (basic T.61). Exit status: 0, converted; 1, the text is
-//! refused, and the message names the octet and its place, except for 11 and 12, which are about none; 2, anything else. OUTPUT is written
-//! only where the text is converted.
+//! SOURCE and TARGET are 1 (T51String in eight bits), 2 (in seven bits) or 3 (basic T.61). One line says how many elements were respelled:
+//! those that did not stand in SOURCE's canonical spelling. Exit status: 0, converted; 1, the text is refused, and the message names the
+//! octet and its place, except for 11 and 12, which are about none; 2, anything else. OUTPUT is written only where the text is converted.
 
 use std::fs;
+use std::io::{self, Write};
 use std::process::ExitCode;
 
 use oakentwirl::{Error, Form};
@@ -49,7 +50,10 @@ fn run(arguments: &[String]) -> Result<(), Failure> {
     let text = fs::read(file).map_err(|_| Failure(format!("{file}: cannot be read"), 2))?;
     let converted = oakentwirl::convert(form(source)?, form(target)?, &text)
         .map_err(|error| refused(error, &text))?;
-    fs::write(output, converted).map_err(|_| Failure(format!("{output}: cannot be written"), 2))
+    fs::write(output, converted.text)
+        .map_err(|_| Failure(format!("{output}: cannot be written"), 2))?;
+    writeln!(io::stdout(), "{} elements respelled", converted.respelled)
+        .map_err(|_| Failure("the number: cannot be written".into(), 2))
 }
 
 fn main() -> ExitCode {

@@ -13,6 +13,7 @@ use crate::{Error, Form};
 ///
 /// let mut page = Serial::new(Form::Eight);
 /// assert_eq!(page.feed(b"caf\xC2"), Ok(&[0x63, 0x61, 0x66][..]));
+/// assert_eq!(page.so_far().map(|totals| totals.elements), Ok(3));
 /// assert_eq!(page.feed(b"e"), Ok(&[0xE9][..]));
 /// assert_eq!(page.end().map(|totals| totals.elements), Ok(4));
 /// ```
@@ -21,17 +22,20 @@ pub struct Serial {
     carry: Carry,
     words: Vec<u32>,
     handed: usize,
+    so_far: Result<Totals, Error>,
 }
 
-/// What a page has from its start to its end.
-#[derive(Clone, Copy, Debug, PartialEq, Eq)]
+/// What a page has from its start on: so far, or up to its end.
+#[derive(Clone, Copy, Debug, Default, PartialEq, Eq)]
 pub struct Totals {
     /// How many elements.
     pub elements: usize,
-    /// How many octets.
+    /// How many octets, those of an unfinished element too.
     pub octets: usize,
     /// How many words were handed out.
     pub words: usize,
+    /// How many elements did not stand in their form's canonical spelling.
+    pub respelled: usize,
 }
 
 impl Serial {
@@ -43,6 +47,7 @@ impl Serial {
             carry: fresh.carry,
             words: Vec::new(),
             handed: 0,
+            so_far: Ok(Totals::default()),
         }
     }
 
@@ -57,6 +62,11 @@ impl Serial {
     /// The words that the last call handed out.
     pub fn words(&self) -> &[u32] {
         &self.words[..self.handed]
+    }
+
+    /// What the page has so far, or why it is refused.
+    pub fn so_far(&self) -> Result<Totals, Error> {
+        self.so_far
     }
 
     /// Ends the page: it is refused if an element is unfinished, or if it was refused before.
@@ -81,13 +91,16 @@ impl Serial {
         };
         self.carry = fed.carry;
         self.handed = fed.handed;
-        match Error::of(&fed.answer.into()) {
+        let said = fed.answer.into();
+        self.so_far = match Error::of(&said) {
             Some(error) => Err(error),
             None => Ok(Totals {
-                elements: fed.answer.element,
-                octets: fed.answer.place,
-                words: fed.answer.count,
+                elements: said.answer.element,
+                octets: said.answer.place,
+                words: said.answer.count,
+                respelled: said.respelled,
             }),
-        }
+        };
+        self.so_far
     }
 }

@@ -31,7 +31,7 @@ stepped : (c : tie.After-known-told) → Stepped c
 stepped c =
     let s3 = c .before .before .before in
     let a = s3 .before .before .before .before .before .before .args in
-    by-step (a .form) (a .text .now) (a .at) _ _ (sym (s3 .element-at .ensures .0) ∙ c .before .step .given .1)
+    by-step (a .form) (a .text .now) (a .at) _ _ _ (sym (s3 .element-at .ensures .0) ∙ c .before .step .given .1)
 
 shared-slice-read-code-in : tie.Need-shared-slice-read-code-in
 shared-slice-read-code-in c =

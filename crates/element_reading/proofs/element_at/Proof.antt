@@ -1,7 +1,7 @@
--- By the sort of the first octet (first-here, control-here, refused-here), and at the end that none is left (none-left).
+-- By the sort of the first octet (graphic-here, first-here, control-here, refused-here), and at the end that none is left (none-left).
 use mathlib.Core.Path.{sym, _∙_}
 use native.Mathlib.Omega.{arith}
-use Rattle.element_reading.proofs.Steps.{none-left, first-here, control-here, refused-here, follower-behind, sequence-first}
+use Rattle.element_reading.proofs.Steps.{none-left, graphic-here, first-here, control-here, refused-here, follower-behind, sequence-first}
 use Rattle.element_reading.proofs.NumbersExactly.{step-kept}
 use borrow.Author.Needs.{needs}
 use Rattle.element_reading.proofs.element_at.Statement.{statement}
@@ -19,8 +19,11 @@ sort-in-requires c κs = search needs
 enum-known-sort : tie.Need-enum-known-sort
 enum-known-sort c = search needs
 
-add-t15 : tie.Need-add-t15
-add-t15 c = search needs
+add-t16 : tie.Need-add-t16
+add-t16 c = search needs
+
+word-is-canonical-requires : tie.Need-word-is-canonical-requires
+word-is-canonical-requires c κs = search needs
 
 enum-known-sort-2 : tie.Need-enum-known-sort-2
 enum-known-sort-2 c = search needs
@@ -46,20 +49,23 @@ shift-step-requires c κs = search needs
 enum-told-3 : tie.Need-enum-told-3
 enum-told-3 c = search needs
 
-cast-t17 : tie.Need-cast-t17
-cast-t17 c =
+cast-word : tie.Need-cast-word
+cast-word c =
     let at-shared-slice-known2 = c .before .before .before in
     let a = at-shared-slice-known2 .before .before .before .args in
     omega (arith, at-shared-slice-known2 .shared-slice-known2 .given (a .at))
 
-add-t18 : tie.Need-add-t18
-add-t18 c =
+add-word : tie.Need-add-word
+add-word c =
     let at-shared-slice-known2 = c .before .before .before in
     let a = at-shared-slice-known2 .before .before .before .args in
     omega (arith, at-shared-slice-known2 .shared-slice-known2 .given (a .at))
 
-add-t20 : tie.Need-add-t20
-add-t20 c = search needs
+add-t21 : tie.Need-add-t21
+add-t21 c = search needs
+
+word-is-canonical-requires-2 : tie.Need-word-is-canonical-requires-2
+word-is-canonical-requires-2 c κs = search needs
 
 enum-told-4 : tie.Need-enum-told-4
 enum-told-4 c = search needs
@@ -75,10 +81,12 @@ refused-at-requires c κs = search needs
 
 returns-2 : tie.Need-returns-2
 returns-2 c =
-    let at-sort-in = c .before .before .before in
+    let at-sort = c .before .before in
+    let at-sort-in = at-sort .before .before in
     let at-if1 = at-sort-in .before .before in
     step-kept _ _ _ _
-    (first-here _ _ _ _ (at-if1 .if1 .left) (sym (at-sort-in .sort-in .ensures .0) ∙ c .before .sort .given .1))
+    (graphic-here _ _ _ _ _ (at-if1 .if1 .left) (sym (at-sort-in .sort-in .ensures .0) ∙ at-sort .sort .given .1)
+    (c .word-is-canonical .ensures))
 
 returns-3 : tie.Need-returns-3
 returns-3 c =
@@ -107,17 +115,18 @@ returns-5 c =
 
 returns-6 : tie.Need-returns-6
 returns-6 c =
-    let at-sort-in = c .before .before in
+    let at-sort-in = c .before .before .before in
     let at-if1 = at-sort-in .before .before in
     step-kept _ _ _ _
-    (control-here _ _ _ _ (at-if1 .if1 .left) (sym (at-sort-in .sort-in .ensures .0) ∙ c .enum-told3 .given .1) (omega arith))
+    (control-here _ _ _ _ _ (at-if1 .if1 .left) (sym (at-sort-in .sort-in .ensures .0) ∙ c .before .enum-told3 .given .1) (omega arith)
+    (c .word-is-canonical2 .ensures))
 
 returns-7 : tie.Need-returns-7
 returns-7 c =
     let at-sort-in = c .before .before .before in
     let at-if1 = at-sort-in .before .before in
     step-kept _ _ _ _
-    (c .sequence-step .ensures ∙ sequence-first _ _ (at-if1 .if1 .left) ∙ first-here _ _ _ _ (at-if1 .if1 .left)
+    (c .sequence-step .ensures _ ∙ sequence-first _ _ _ (at-if1 .if1 .left) ∙ first-here _ _ _ _ (at-if1 .if1 .left)
     (sym (at-sort-in .sort-in .ensures .0) ∙ c .before .enum-told4 .given .1))
 
 returns-8 : tie.Need-returns-8
@@ -136,7 +145,8 @@ element-at-spec =
     shared-slice-read-o
     sort-in-requires
     enum-known-sort
-    add-t15
+    add-t16
+    word-is-canonical-requires
     enum-known-sort-2
     add-follower-step
     follower-step-requires
@@ -145,9 +155,10 @@ element-at-spec =
     enum-told-2
     shift-step-requires
     enum-told-3
-    cast-t17
-    add-t18
-    add-t20
+    cast-word
+    add-word
+    add-t21
+    word-is-canonical-requires-2
     enum-told-4
     sequence-step-requires
     enum-known-sort-3

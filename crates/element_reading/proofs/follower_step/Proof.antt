@@ -48,17 +48,26 @@ returns-2 c =
 graphic-word-requires : tie.Need-graphic-word-requires
 graphic-word-requires c κs = square-small _ _ _ (sym (c .before .before .before .paired .ensures .0) ∙ c .before .found .given .1)
 
-add-t10 : tie.Need-add-t10
-add-t10 c = search needs
+add-t11 : tie.Need-add-t11
+add-t11 c = search needs
+
+add-word-is-canonical : tie.Need-add-word-is-canonical
+add-word-is-canonical c = search needs
+
+sub-word-is-canonical : tie.Need-sub-word-is-canonical
+sub-word-is-canonical c = search needs
+
+word-is-canonical-requires : tie.Need-word-is-canonical-requires
+word-is-canonical-requires c κs = search needs
 
 returns-3 : tie.Need-returns-3
 returns-3 c =
-    let at-found = c .before .before in
+    let at-found = c .before .before .before in
     let at-paired = at-found .before .before in
     let at-if1 = at-paired .before .before in
     let at-pre = at-if1 .before .before in
-    follower-is _ _ _ _ _ _ (at-pre .pre .0) _ _ (at-if1 .if1 .left) (sym (at-paired .paired .ensures .0) ∙ at-found .found .given .1)
-    (c .graphic-word .ensures)
+    follower-is _ _ _ _ _ _ (at-pre .pre .0) _ _ _ (at-if1 .if1 .left) (sym (at-paired .paired .ensures .0) ∙ at-found .found .given .1)
+    (c .before .graphic-word .ensures) (c .word-is-canonical .ensures)
 
 pub follower-step-spec : {M : Type 1} → statement M
 follower-step-spec =
@@ -75,5 +84,8 @@ follower-step-spec =
     refused-at-requires-2
     returns-2
     graphic-word-requires
-    add-t10
+    add-t11
+    add-word-is-canonical
+    sub-word-is-canonical
+    word-is-canonical-requires
     returns-3)

@@ -1,9 +1,8 @@
--- The definition, by the sort: a spacing character, a mark (follower-behind), what may not follow (second-other).
+-- The definition, by the sort: a spacing character (second-graphic), a mark (follower-behind), what may not follow (second-other).
 use mathlib.Core.Path.{ap, _∙_}
 use Prim.Native.Nat.{ℕ, _+_}
-use Rattle.element_words.specs.declared.Element.the-variants.{One}
-use Rattle.element_reading.specs.declared.Step.the-variants.{Element as Read, Refused as Stopped}
-use Rattle.element_reading.proofs.Steps.{follower-behind, second-other}
+use Rattle.element_reading.specs.declared.Step.the-variants.{Refused as Stopped}
+use Rattle.element_reading.proofs.Steps.{second-graphic, follower-behind, second-other}
 use borrow.Author.Needs.{needs}
 use Rattle.element_reading.proofs.second_step.Statement.{statement}
 use Rattle.element_reading.proofs.second_step.Tie as tie
@@ -18,6 +17,15 @@ graphic-word-requires c κs =
 
 add-t12 : tie.Need-add-t12
 add-t12 c = search needs
+
+add-word-is-canonical : tie.Need-add-word-is-canonical
+add-word-is-canonical c = search needs
+
+shared-slice-read-word-is-canonical : tie.Need-shared-slice-read-word-is-canonical
+shared-slice-read-word-is-canonical c = search needs
+
+word-is-canonical-requires : tie.Need-word-is-canonical-requires
+word-is-canonical-requires c κs = search needs
 
 enum-known-sort-2 : tie.Need-enum-known-sort-2
 enum-known-sort-2 c = search needs
@@ -39,9 +47,11 @@ refused-at-requires c κs = search needs
 
 returns : tie.Need-returns
 returns c =
-    let at-sort = c .before .before in
+    let at-word = c .before .before in
+    let at-sort = at-word .before .before in
     let a = at-sort .before .before .before .args in
-    ap (λ (w : ℕ). Read (One w) (a .at + 2)) (c .graphic-word .ensures) ∙ rw (at-sort .sort .given .1)
+    second-graphic (a .form) (a .text .now) (a .at) (a .under) (a .number) _ _ _ _ (a .sort) (at-sort .sort .given .1)
+    (at-word .graphic-word .ensures) (c .word-is-canonical .ensures)
 
 returns-2 : tie.Need-returns-2
 returns-2 c = c .follower-step .ensures ∙ follower-behind _ _ _ 2 _ _ ∙ rw (c .before .before .sort2 .given .1)
@@ -60,6 +70,9 @@ second-step-spec =
     enum-known-sort
     graphic-word-requires
     add-t12
+    add-word-is-canonical
+    shared-slice-read-word-is-canonical
+    word-is-canonical-requires
     enum-known-sort-2
     add-follower-step
     follower-step-requires

@@ -1,6 +1,7 @@
 -- The sequence reader's answer, taken apart: a sequence (sequence-whole), a refusal (sequence-stopped), the end (sequence-ended).
 use mathlib.Core.Path.{sym, _∙_}
-use Rattle.element_reading.proofs.Steps.{sequence-count, sequence-whole, sequence-stopped, sequence-ended}
+use native.Mathlib.Omega.{arith}
+use Rattle.element_reading.proofs.Steps.{sequence-inside, sequence-whole, sequence-stopped, sequence-ended}
 use borrow.Author.Needs.{needs}
 use Rattle.element_reading.proofs.sequence_step.Statement.{statement}
 use Rattle.element_reading.proofs.sequence_step.Tie as tie
@@ -14,7 +15,39 @@ enum-known-reading c = search needs
 head-word-requires : tie.Need-head-word-requires
 head-word-requires c κs =
     let at-read-sequence = c .before .before .before in
-    sequence-count _ _ _ _ _ _ _ (sym (at-read-sequence .read-sequence .ensures .0) ∙ c .before .reading .given .1)
+    sequence-inside _ _ _ _ _ _ _ (sym (at-read-sequence .read-sequence .ensures .0) ∙ c .before .reading .given .1) .0
+
+-- the sequence lies in the text, and has an octet at least
+sub-sequence-is-canonical : tie.Need-sub-sequence-is-canonical
+sub-sequence-is-canonical c =
+    let at-reading = c .before .before in
+    let at-read-sequence = at-reading .before .before in
+    let inside = sequence-inside _ _ _ _ _ _ _ (sym (at-read-sequence .read-sequence .ensures .0) ∙ at-reading .reading .given .1) in
+    omega (arith, inside .1)
+
+sub-sequence-is-canonical-2 : tie.Need-sub-sequence-is-canonical-2
+sub-sequence-is-canonical-2 c =
+    let at-reading = c .before .before in
+    let at-read-sequence = at-reading .before .before in
+    let inside = sequence-inside _ _ _ _ _ _ _ (sym (at-read-sequence .read-sequence .ensures .0) ∙ at-reading .reading .given .1) in
+    omega (arith, inside .1)
+
+part-sequence-is-canonical-start : tie.Need-part-sequence-is-canonical-start
+part-sequence-is-canonical-start c =
+    let at-reading = c .before .before in
+    let at-read-sequence = at-reading .before .before in
+    let inside = sequence-inside _ _ _ _ _ _ _ (sym (at-read-sequence .read-sequence .ensures .0) ∙ at-reading .reading .given .1) in
+    omega (arith, inside .1)
+
+part-sequence-is-canonical-end : tie.Need-part-sequence-is-canonical-end
+part-sequence-is-canonical-end c =
+    let at-reading = c .before .before in
+    let at-read-sequence = at-reading .before .before in
+    let inside = sequence-inside _ _ _ _ _ _ _ (sym (at-read-sequence .read-sequence .ensures .0) ∙ at-reading .reading .given .1) in
+    omega (arith, inside .1, inside .2)
+
+sequence-is-canonical-requires : tie.Need-sequence-is-canonical-requires
+sequence-is-canonical-requires c κs = search needs
 
 enum-known-reading-2 : tie.Need-enum-known-reading-2
 enum-known-reading-2 c = search needs
@@ -27,16 +60,17 @@ enum-told c = search needs
 
 returns : tie.Need-returns
 returns c =
-    let at-reading = c .before .before in
+    let at-reading = c .before .before .before .before in
     let at-read-sequence = at-reading .before .before in
-    sequence-whole _ _ _ _ _ _ _ _ (sym (at-read-sequence .read-sequence .ensures .0) ∙ at-reading .reading .given .1)
-    (c .head-word .ensures)
+    sequence-whole _ _ _ _ _ _ _ _ _ (sym (at-read-sequence .read-sequence .ensures .0) ∙ at-reading .reading .given .1)
+    (c .before .before .head-word .ensures) (c .sequence-is-canonical .ensures)
 
 returns-2 : tie.Need-returns-2
-returns-2 c =
+returns-2 c f =
     let at-reading2 = c .before .before in
     let at-read-sequence = at-reading2 .before .before in
-    c .refused-at .ensures ∙ sequence-stopped _ _ _ _ (sym (at-read-sequence .read-sequence .ensures .0) ∙ at-reading2 .reading2 .given .1)
+    c .refused-at .ensures
+    ∙ sequence-stopped _ _ _ _ (sym (at-read-sequence .read-sequence .ensures .0) ∙ at-reading2 .reading2 .given .1) f
 
 returns-3 : tie.Need-returns-3
 returns-3 c = sequence-ended _ _ (sym (c .before .before .read-sequence .ensures .0) ∙ c .enum-told .given .1)
@@ -48,6 +82,11 @@ sequence-step-spec =
     read-sequence-requires
     enum-known-reading
     head-word-requires
+    sub-sequence-is-canonical
+    sub-sequence-is-canonical-2
+    part-sequence-is-canonical-start
+    part-sequence-is-canonical-end
+    sequence-is-canonical-requires
     enum-known-reading-2
     refused-at-requires
     enum-told

@@ -9,8 +9,10 @@ use Prim.Native.Nat.{ℕ}
 use lib.Dec.{eqb}
 use borrow.Author.Needs.{needs}
 use Rattle.run.specs.Head.{Head, element, refused, none}
+use Rattle.run.specs.Tagged.{tagHead}
 use Rattle.sorts.specs.declared.Form.{Form}
 use Rattle.element_words.specs.declared.Element.{Element}
+use Rattle.element_spelling.specs.ElementOctets.{isCanonical}
 use Rattle.element_reading.specs.declared.Step.{Step}
 use Rattle.element_reading.specs.declared.Step.the-variants.{Element as Read, Refused as Stopped, End}
 use Rattle.element_reading.specs.ElementHead.{headIn, stepOf, stepAt}
@@ -20,18 +22,18 @@ use Rattle.open_elements.proofs.is_open.Statement.{statement}
 use Rattle.open_elements.proofs.is_open.Tie as tie
 
 abbrev openStep : Step → Bool
-openStep (Read e k) = false
+openStep (Read e k b) = false
 openStep (Stopped r p d) = eqb r 4
 openStep End = true
 
-opens : (h : Head Element) → openStep (stepOf 0 h) ≡ openHead h
-opens (element e k) = refl
-opens (refused r d) = refl
-opens none = refl
+opens : (f : Form) (s : List ℕ) (h : Head Element) → openStep (stepOf 0 (tagHead (isCanonical f) s h)) ≡ openHead h
+opens f s (element e k) = refl
+opens f s (refused r d) = refl
+opens f s none = refl
 
 step-opens : (f : Form) (s : List ℕ) (x y : Step) → x ≡ stepAt f s 0 → x ≡ y → openStep y ≡ isOpen f s
 unfolding stepAt
-step-opens f s x y e q = ap openStep (sym q ∙ e) ∙ opens (headIn f s)
+step-opens f s x y e q = ap openStep (sym q ∙ e) ∙ opens f s (headIn f s)
 
 none-open : (f : Form) (s : List ℕ) → length s ≡ 0 → true ≡ isOpen f s
 none-open f [] e = ap openHead (sym (reads f .ends))

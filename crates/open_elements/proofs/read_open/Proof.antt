@@ -1,7 +1,8 @@
 -- The first forty octets say what stands at the head (first-octets): a refusal (first-refused), or an element that ends behind what waited
--- (ends-behind), with the rest read behind it (front-fits, front-short).
+-- (ends-behind), with the rest read behind it (front-fits, front-short), and the elements that were not canonical added up
+-- (behind-respelled).
 use Prim.Native.Nat.{ℕ, _+_, _-_, _≤_, _<_}
-use mathlib.Core.Path.{_≡_, refl, sym, _∙_, subst}
+use mathlib.Core.Path.{_≡_, refl, sym, ap, _∙_, subst}
 use mathlib.Core.Bool.{false}
 use mathlib.Core.List.{List, _++_}
 use native.Mathlib.Omega.{arith}
@@ -9,16 +10,18 @@ use lib.ListN.{length, take, drop, length-append, length-drop}
 use lib.Seq.{length-take-le}
 use Rattle.run.specs.Head.{element}
 use Rattle.run.proofs.Puts.{behind-is}
-use Rattle.element_reading.specs.ElementHead.{headIn}
+use Rattle.element_reading.specs.ElementHead.{headIn, canonicalHead}
 use Rattle.text_loops.specs.declared.Measured.{Measured}
 use Rattle.text_loops.specs.Promises.{ReadFrontPromise}
 use Rattle.open_elements.proofs.Fronts.{Modest, modest}
 use Rattle.open_elements.proofs.Opened.{
   head-words,
+  told-stands,
+  behind-respelled,
   gathered-size,
   first-octets,
   first-some,
-  first-here,
+  first-told,
   first-refused,
   ends-behind,
   front-fits,
@@ -41,13 +44,20 @@ window : (c : tie.After-gather) →
     take (c .gather .result) (c .gather .last .1 .1 .1 .0) ≡ take 40 (a .waiting .now ++ a .piece .now)
 window c = first-octets refl (c .gather .ensures)
 
--- the element that stands at the head of all
+-- the element that stands at the head of all, and whether it is canonical
+told : (c : tie.After-step) →
+    let a = entry c .args in
+    let e = c .step .given .0 in
+    canonicalHead (a .form) (a .waiting .now ++ a .piece .now) ≡ element (e .0, e .1 .1 .0) (e .1 .0)
+told c =
+    first-told _ _ _ (window (c .before .before .before .before .before)) _ _ _
+    (sym (c .before .before .element-at .ensures .0) ∙ c .step .given .1)
+
+-- the element alone
 here : (c : tie.After-step) →
     let a = entry c .args in
     headIn (a .form) (a .waiting .now ++ a .piece .now) ≡ element (c .step .given .0 .0) (c .step .given .0 .1 .0)
-here c =
-    first-here _ _ _ (window (c .before .before .before .before .before)) _ _
-    (sym (c .before .before .element-at .ensures .0) ∙ c .step .given .1)
+here c = told-stands _ _ (told c)
 
 -- it ends behind what waited, within the piece
 ends : (c : tie.After-step) →
@@ -105,6 +115,29 @@ words-few : (c : tie.After-read-front) →
 words-few c =
     let first = head-words _ _ (here (stepped c)) in
     omega (arith, rest-small c .words, rest-length c, first, c .before .before .before .words-in .ensures)
+
+-- and all that were not canonical no more than the elements
+respelled-few : (c : tie.After-not-canonical) →
+    let read = c .before .before .before .before .before .before in
+    let a = entry (stepped read) .args in
+    c .not-canonical .result + read .read-front .result .respelled ≤ length (a .waiting .now) + length (a .piece .now)
+respelled-few c =
+    let read = c .before .before .before .before .before .before in
+    let a = entry (stepped read) .args in
+    let s = a .waiting .now ++ a .piece .now in
+    let small = modest (a .form) s in
+    let rest = ap (λ (m : Measured). m .respelled) (rest-read read .0) in
+    let both = behind-respelled _ _ (told (stepped read)) in
+    omega (
+      arith,
+      small .respelled,
+      small .elements,
+      small .place,
+      length-append (a .waiting .now) (a .piece .now),
+      both,
+      rest,
+      c .not-canonical .ensures,
+    )
 
 slice-aggregate-gather : tie.Need-slice-aggregate-gather
 slice-aggregate-gather c = search needs
@@ -169,15 +202,26 @@ behind-one-requires c κs =
       (omega (arith, small .place, rest-length read, long), omega (arith, small .inside, rest-length read, long)),
     )
 
+not-canonical-requires : tie.Need-not-canonical-requires
+not-canonical-requires c κs = tt
+
+add-respelled : tie.Need-add-respelled
+add-respelled c =
+    let sum = c .before in
+    let read = sum .before .before .before .before .before .before in
+    search (needs, respelled-few sum, lengths (entry (stepped read)))
+
 same-length : tie.Need-same-length
 same-length c = search needs
 
 returns-2 : tie.Need-returns-2
 returns-2 c =
-    let read = c .before .before .before .before .before .before in
+    let sum = c .before .before in
+    let read = sum .before .before .before .before .before .before in
     let r = rest-read read in
-    front-short _ _ (here (stepped read)) (entry (stepped read) .args .words .now) _ _ _ (read .before .before .before .words-in .ensures)
-    (r .0) (r .1) (c .before .behind-one .ensures) (c .if1 .taken)
+    front-short _ _ (told (stepped read)) (entry (stepped read) .args .words .now) _ _ _
+    (read .before .before .before .words-in .ensures) (sum .not-canonical .ensures) (r .0) (r .1) (sum .before .behind-one .ensures)
+    (c .if1 .taken)
 
 put-words-requires : tie.Need-put-words-requires
 put-words-requires c κs = tt
@@ -187,11 +231,13 @@ same-length-2 c = search needs
 
 returns-3 : tie.Need-returns-3
 returns-3 c =
-    let read = c .before .before .before .before .before .before .before .before .before .before in
+    let test = c .before .before .before .before in
+    let sum = test .before .before in
+    let read = sum .before .before .before .before .before .before in
     let r = rest-read read in
-    front-fits _ _ (here (stepped read)) (entry (stepped read) .args .words .now) _ _ _ (read .before .before .before .words-in .ensures)
-    (r .0) (r .1) (c .before .before .before .before .before .behind-one .ensures) (c .before .before .before .before .if1 .left)
-    (c .before .before .put-words .ensures)
+    front-fits _ _ (told (stepped read)) (entry (stepped read) .args .words .now) _ _ _
+    (read .before .before .before .words-in .ensures) (sum .not-canonical .ensures) (r .0) (r .1) (sum .before .behind-one .ensures)
+    (test .if1 .left) (c .before .before .put-words .ensures)
 
 pub read-open-spec : {M : Type 1} → statement M
 read-open-spec =
@@ -213,6 +259,8 @@ read-open-spec =
     read-front-requires
     add-count
     behind-one-requires
+    not-canonical-requires
+    add-respelled
     same-length
     returns-2
     put-words-requires

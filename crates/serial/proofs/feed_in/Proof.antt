@@ -98,16 +98,16 @@ stops-requires c κs = tt
 sub-before : tie.Need-sub-before
 sub-before c = small (entry (c .before .before .before .before .before .before .before .before .before)) .held
 
-add-t23 : tie.Need-add-t23
-add-t23 c = omega (arith, read-sums (c .before .before .before .before .before .before .before .before .before .before .before) .elements)
-
 add-t24 : tie.Need-add-t24
-add-t24 c =
-    let s = read-sums (c .before .before .before .before .before .before .before .before .before .before .before .before) in
-    omega (arith, s .place)
+add-t24 c = omega (arith, read-sums (c .before .before .before .before .before .before .before .before .before .before .before) .elements)
 
 add-t25 : tie.Need-add-t25
 add-t25 c =
+    let s = read-sums (c .before .before .before .before .before .before .before .before .before .before .before .before) in
+    omega (arith, s .place)
+
+add-t26 : tie.Need-add-t26
+add-t26 c =
     let s = read-sums (c .before .before .before .before .before .before .before .before .before .before .before .before .before) in
     omega (arith, s .count)
 
@@ -130,44 +130,52 @@ returns-2 c =
       fed-words (a .form) (a .carry) (a .piece .now) (a .ended) (a .words .now) front,
     )
 
-add-t19 : tie.Need-add-t19
-add-t19 c = omega (arith, read-sums (c .before .before .before .before .before .before .before .before .before .before) .elements)
-
-add-t28 : tie.Need-add-t28
-add-t28 c = search needs
+add-t20 : tie.Need-add-t20
+add-t20 c = omega (arith, read-sums (c .before .before .before .before .before .before .before .before .before .before) .elements)
 
 add-t29 : tie.Need-add-t29
-add-t29 c =
+add-t29 c = search needs
+
+add-t30 : tie.Need-add-t30
+add-t30 c =
     let s = read-sums (c .before .before .before .before .before .before .before .before .before .before .before .before .before) in
     omega (arith, s .words)
+
+add-respelled : tie.Need-add-respelled
+add-respelled c =
+    let s7 = c .before .before .before .before .before .before .before in
+    omega (arith, read-sums (s7 .before .before .before .before .before .before .before .before) .respelled)
 
 stop-requires-2 : tie.Need-stop-requires-2
 stop-requires-2 c κs = tt
 
 same-length-3 : tie.Need-same-length-3
 same-length-3 c =
-    same-words (c .before .before .before .before .before .before .before .before .before .before .before .before .before .before .before)
+    let s9 = c .before .before .before .before .before .before .before .before .before in
+    same-words (s9 .before .before .before .before .before .before .before .before)
 
 returns-3 : tie.Need-returns-3
 returns-3 c =
-    let s7 = c .before .before .before .before .before .before .before in
-    let read = s7 .before .before .before .before .before .before .before .before in
+    let s9 = c .before .before .before .before .before .before .before .before .before in
+    let read = s9 .before .before .before .before .before .before .before .before in
     let a = entry read .args in
     let front = front-of read in (
       c .stop2 .ensures
           ∙ fed-ended (a .form) (a .carry) (a .piece .now) (a .ended) (a .words .now) front
-          (s7 .before .before .before .before .if1 .left) (sym (s7 .before .stops .ensures) ∙ s7 .if2 .left) (c .before .if3 .taken),
+          (s9 .before .before .before .before .if1 .left) (sym (s9 .before .stops .ensures) ∙ s9 .if2 .left) (c .before .if3 .taken),
       fed-words (a .form) (a .carry) (a .piece .now) (a .ended) (a .words .now) front,
     )
 
 array-share-prefix-held-2 : tie.Need-array-share-prefix-held-2
 array-share-prefix-held-2 c =
-    let read = c .before .before .before .before .before .before .before .before .before .before .before .before .before .before in
+    let s8 = c .before .before .before .before .before .before .before .before in
+    let read = s8 .before .before .before .before .before .before .before .before in
     holds-few (entry read)
 
 slice-aggregate-gather : tie.Need-slice-aggregate-gather
 slice-aggregate-gather c =
-    let read = c .before .before .before .before .before .before .before .before .before .before .before .before .before .before .before in
+    let s9 = c .before .before .before .before .before .before .before .before .before in
+    let read = s9 .before .before .before .before .before .before .before .before in
     sym (length-take-le _ _ (holds-few (entry read)))
 
 slice-aggregate-gather-2 : tie.Need-slice-aggregate-gather-2
@@ -177,16 +185,18 @@ gather-requires : tie.Need-gather-requires
 gather-requires c κs = tt
 
 same-length-4 : tie.Need-same-length-4
-same-length-4 c = search needs
+same-length-4 c =
+    let s12 = c .before .before .before .before .before .before .before .before .before .before .before .before in
+    same-words (s12 .before .before .before .before .before .before .before .before)
 
 returns-4 : tie.Need-returns-4
 returns-4 c =
-    let s10 = c .before .before .before .before .before .before .before .before .before .before in
-    let read = s10 .before .before .before .before .before .before .before .before in
+    let s12 = c .before .before .before .before .before .before .before .before .before .before .before .before in
+    let read = s12 .before .before .before .before .before .before .before .before in
     let a = entry read .args in
     let front = front-of read in (
       fed-waits (a .form) (a .carry) (a .piece .now) (a .ended) (a .words .now) front
-          (s10 .before .before .before .before .if1 .left) (sym (s10 .before .stops .ensures) ∙ s10 .if2 .left)
+          (s12 .before .before .before .before .if1 .left) (sym (s12 .before .stops .ensures) ∙ s12 .if2 .left)
           (c .before .before .before .before .if3 .left) _ refl (c .before .gather .ensures),
       fed-words (a .form) (a .carry) (a .piece .now) (a .ended) (a .words .now) front,
     )
@@ -204,15 +214,16 @@ feed-in-spec =
     returns
     stops-requires
     sub-before
-    add-t23
     add-t24
     add-t25
+    add-t26
     stop-requires
     same-length-2
     returns-2
-    add-t19
-    add-t28
+    add-t20
     add-t29
+    add-t30
+    add-respelled
     stop-requires-2
     same-length-3
     returns-3

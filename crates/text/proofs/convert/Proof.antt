@@ -1,10 +1,11 @@
--- No form is 11, of the source, then of the target (no-form); else what respelling promises (a-form).
+-- No form is 11, of the source, then of the target (no-form), and carries 0 (carried-bare); else what respelling promises (promised).
 use mathlib.Core.Path.{_≡_, sym, _∙_}
+use native.Mathlib.Omega.{arith}
 use Rattle.sorts.specs.declared.FormFound.the-variants.{Is}
 use Rattle.sorts.specs.Forms.{formOf}
-use Rattle.text.specs.Outcomes.{convertIn}
 use Rattle.text.specs.WriteAnswers.{convertAnswer, convertText}
-use Rattle.text_reading.proofs.Edges.{no-form, a-form}
+use Rattle.text_reading.proofs.Edges.{no-form, a-form, carried-bare}
+use Rattle.text.proofs.Converting.{promised}
 use borrow.Author.Needs.{needs}
 use Rattle.text.proofs.convert.Statement.{statement}
 use Rattle.text.proofs.convert.Tie as tie
@@ -30,11 +31,16 @@ enum-told c = search needs
 bare-answer-requires : tie.Need-bare-answer-requires
 bare-answer-requires c κs = search needs
 
+reading-of-requires : tie.Need-reading-of-requires
+reading-of-requires c κs = search needs
+
 returns : tie.Need-returns
 unfolding convertAnswer convertText
 returns c =
-    let q = (sym (c .before .before .before .form-of .ensures .0) ∙ c .before .enum-told .given .1) in
-    (c .bare-answer .ensures ∙ no-form _ _ _ q, no-form _ _ _ q)
+    let bare = c .before in
+    let is = bare .bare-answer .ensures in
+    let q = sym (bare .before .before .before .form-of .ensures .0) ∙ bare .before .enum-told .given .1 in
+    (carried-bare _ _ _ _ (c .reading-of .ensures) is (omega arith) (is ∙ no-form _ _ _ q), no-form _ _ _ q)
 
 form-of-requires-2 : tie.Need-form-of-requires-2
 form-of-requires-2 c κs = search needs
@@ -48,13 +54,20 @@ enum-told-2 c = search needs
 bare-answer-requires-2 : tie.Need-bare-answer-requires-2
 bare-answer-requires-2 c κs = search needs
 
+reading-of-requires-2 : tie.Need-reading-of-requires-2
+reading-of-requires-2 c κs = search needs
+
 returns-2 : tie.Need-returns-2
 unfolding convertAnswer convertText
 returns-2 c =
-    let asked = c .before .before .before in
+    let bare = c .before in
+    let is = bare .bare-answer2 .ensures in
+    let asked = bare .before .before .before in
     let q = is-source (asked .before .before) in
-    let p = sym (asked .form-of2 .ensures .0) ∙ c .before .enum-told2 .given .1 in
-    (c .bare-answer2 .ensures ∙ a-form _ _ _ _ _ q (no-form _ _ _ p), a-form _ _ _ _ _ q (no-form _ _ _ p))
+    let p = sym (asked .form-of2 .ensures .0) ∙ bare .before .enum-told2 .given .1 in (
+      carried-bare _ _ _ _ (c .reading-of2 .ensures) is (omega arith) (is ∙ a-form _ _ _ _ _ q (no-form _ _ _ p)),
+      a-form _ _ _ _ _ q (no-form _ _ _ p),
+    )
 
 respell-requires : tie.Need-respell-requires
 respell-requires c κs = search needs
@@ -63,13 +76,11 @@ same-length : tie.Need-same-length
 same-length c = search needs
 
 returns-3 : tie.Need-returns-3
-unfolding convertAnswer convertText convertIn
 returns-3 c =
-    let e = c .before .before .respell .ensures in
     let to = c .before .before .before .before .before in
-    let p = is-target to in
-    let q = is-source (to .before .before .before .before) in
-    (a-form _ _ _ _ _ q (a-form _ _ _ _ _ p (e .0)), a-form _ _ _ _ _ q (a-form _ _ _ _ _ p (e .1)))
+    let from = to .before .before .before .before in
+    let a = from .before .before .before .before .before .args in
+    promised (a .source) (a .target) _ _ (is-source from) (is-target to) (a .text .now) (a .out .now) (c .before .before .respell .ensures)
 
 pub convert-spec : {M : Type 1} → statement M
 convert-spec =
@@ -79,11 +90,13 @@ convert-spec =
     enum-known-from
     enum-told
     bare-answer-requires
+    reading-of-requires
     returns
     form-of-requires-2
     enum-known-to
     enum-told-2
     bare-answer-requires-2
+    reading-of-requires-2
     returns-2
     respell-requires
     same-length

@@ -84,7 +84,7 @@ found : (c : tie.After-step Inv-loop μ-loop) →
     let at = run .before .before .before .before .before .loop .at + run .before .before .put-run .result in
     let x = c .step .given .0 in
     HereStands (headIn (a .form) (drop at (a .text .now))) at (x .0) (x .1 .0)
-found c = here _ _ _ _ _ (sym (c .before .before .element-at .ensures .0) ∙ c .step .given .1)
+found c = here _ _ _ _ _ _ (sym (c .before .before .element-at .ensures .0) ∙ c .step .given .1)
 
 loop-holds : tie.Need-loop-holds Inv-loop μ-loop
 loop-holds c = let a = c .before .before .args in fill-start (reads (a .form)) (few-words (a .form)) (a .text .now) (a .words .now)

@@ -1,11 +1,13 @@
--- No form is 11 (no-form), over the limit is 12 (over), else what is counted, for which the room is enough (enough).
+-- No form is 11 (no-form), over the limit is 12 (over), else what is counted, for which the room is enough (enough); with the fifth number
+-- (carried), or 0 (carried-bare).
 use mathlib.Core.Path.{_≡_, sym, ap, _∙_}
+use native.Mathlib.Omega.{arith}
 use Rattle.sorts.specs.declared.FormFound.the-variants.{Is}
 use Rattle.sorts.specs.Forms.{formOf}
 use Rattle.text_loops.specs.declared.Measured.{Measured}
-use Rattle.text_reading.specs.ReadAnswers.{readAnswer}
+use Rattle.text_reading.specs.ReadAnswers.{readAnswer, respelledIn}
 use Rattle.text_reading.proofs.ReadTexts.{enough}
-use Rattle.text_reading.proofs.Edges.{no-form, a-form, over, within}
+use Rattle.text_reading.proofs.Edges.{no-form, a-form, over, within, carried-bare, carried}
 use borrow.Author.Needs.{needs}
 use Rattle.text_reading.proofs.measure.Statement.{statement}
 use Rattle.text_reading.proofs.measure.Tie as tie
@@ -26,31 +28,50 @@ enum-told c = search needs
 bare-answer-requires : tie.Need-bare-answer-requires
 bare-answer-requires c κs = search needs
 
+reading-of-requires : tie.Need-reading-of-requires
+reading-of-requires c κs = search needs
+
 returns : tie.Need-returns
 unfolding readAnswer
-returns c = c .bare-answer .ensures ∙ no-form _ _ _ (sym (c .before .before .before .form-of .ensures .0) ∙ c .before .enum-told .given .1)
+returns c =
+    let bare = c .before in
+    let told = bare .before in
+    let q = sym (told .before .before .form-of .ensures .0) ∙ told .enum-told .given .1 in
+    carried-bare _ _ _ _ (c .reading-of .ensures) (bare .bare-answer .ensures) (omega arith)
+    (bare .bare-answer .ensures ∙ no-form _ _ _ q)
 
 bare-answer-requires-2 : tie.Need-bare-answer-requires-2
 bare-answer-requires-2 c κs = search needs
 
+reading-of-requires-2 : tie.Need-reading-of-requires-2
+reading-of-requires-2 c κs = search needs
+
 returns-2 : tie.Need-returns-2
 unfolding readAnswer
 returns-2 c =
-    let told = c .before .before .before in
+    let bare = c .before in
+    let told = bare .before .before .before in
     let a = told .before .before .before .before .args in
-    c .bare-answer2 .ensures ∙ a-form _ _ _ _ _ (is-form told) (over (a .text .now) _ _ (c .before .if1 .taken))
+    carried-bare _ _ _ _ (c .reading-of2 .ensures) (bare .bare-answer2 .ensures) (omega arith)
+    (bare .bare-answer2 .ensures ∙ a-form _ _ _ _ _ (is-form told) (over (a .text .now) _ _ (bare .before .if1 .taken)))
 
 measure-front-requires : tie.Need-measure-front-requires
 measure-front-requires c κs = search needs
 
+reading-of-requires-3 : tie.Need-reading-of-requires-3
+reading-of-requires-3 c κs = search needs
+
 returns-3 : tie.Need-returns-3
-unfolding readAnswer
+unfolding readAnswer respelledIn
 returns-3 c =
-    let test = c .before .before in
+    let front = c .before in
+    let test = front .before in
     let told = test .before .before in
     let a = told .before .before .before .before .args in
-    let e = ap (λ (m : Measured). m .answer) (c .before .measure-front .ensures) ∙ enough _ (a .text .now) in
-    a-form _ _ _ _ _ (is-form told) (e ∙ within (a .text .now) _ _ (test .if1 .left))
+    let e = ap (λ (m : Measured). m .answer) (front .measure-front .ensures) ∙ enough _ (a .text .now) in
+    let k = ap (λ (m : Measured). m .respelled) (front .measure-front .ensures) in
+    carried _ _ _ _ (c .reading-of3 .ensures) (a-form _ _ _ _ _ (is-form told) (e ∙ within (a .text .now) _ _ (test .if1 .left)))
+    (a-form _ _ _ _ _ (is-form told) k)
 
 pub measure-spec : {M : Type 1} → statement M
 measure-spec =
@@ -60,8 +81,11 @@ measure-spec =
     enum-known-found
     enum-told
     bare-answer-requires
+    reading-of-requires
     returns
     bare-answer-requires-2
+    reading-of-requires-2
     returns-2
     measure-front-requires
+    reading-of-requires-3
     returns-3)

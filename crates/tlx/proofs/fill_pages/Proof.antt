@@ -73,7 +73,7 @@ read-requires c κs = search needs
 
 add-o : tie.Need-add-o Inv-loop μ-loop
 add-o c =
-    let read = c .before .before .before in
+    let read = c .before .before .before .before in
     let num = read .before .before .before in
     let at = num .before .before in
     let room = at .before .before .before .pre .1 in
@@ -87,7 +87,7 @@ loop-less c = search needs
 
 loop-again : tie.Need-loop-again Inv-loop μ-loop
 loop-again c =
-    let read = c .before .before .before in
+    let read = c .before .before .before .before in
     let num = read .before .before .before in
     let at = num .before .before in
     let room = at .before .before .before .pre .1 in

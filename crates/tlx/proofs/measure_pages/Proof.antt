@@ -9,21 +9,23 @@ use Rattle.tlx.proofs.measure_pages.Statement.{statement}
 use Rattle.tlx.proofs.measure_pages.Tie as tie
 
 abbrev Inv-loop : tie.InvT-loop
-Inv-loop form case pages start₀ page₀ n₀ count₀ start page n count = Measured case form pages start page n count
+Inv-loop form case pages start₀ page₀ n₀ count₀ respelled₀ start page n count respelled =
+    Measured case form pages start page n count respelled
 
 abbrev μ-loop : tie.MeasureT-loop
-μ-loop form case pages start₀ page₀ n₀ count₀ start page n count = pages - page
+μ-loop form case pages start₀ page₀ n₀ count₀ respelled₀ start page n count respelled = pages - page
 
 -- behind an accepted page
 turned : (c : tie.Else1 Inv-loop μ-loop) →
-    let m = c .before .before in
+    let m = c .before .before .before in
     let num = m .before .before in
     let i = num .before .before .loop in
     let a = num .before .before .before .before .args in
     let r = m .measure .result in
-    Measured (a .case .now) (a .form) (a .pages) (i .start + num .number-at .result) (i .page + 1) (i .n + r .element) (i .count + r .count)
+    Measured (a .case .now) (a .form) (a .pages) (i .start + num .number-at .result) (i .page + 1) (i .n + r .answer .element)
+    (i .count + r .answer .count) (i .respelled + r .respelled)
 turned c =
-    let m = c .before .before in
+    let m = c .before .before .before in
     let num = m .before .before in
     let was = num .before .before .loop .inv in
     measure-turn was (num .before .loop-test .taken) (num .number-at .ensures) (m .measure .ensures) (c .if1 .left)
@@ -66,7 +68,7 @@ measure-requires c κs = search needs
 
 returns : tie.Need-returns Inv-loop μ-loop
 returns c =
-    let m = c .before .before in
+    let m = c .before .before .before in
     let num = m .before .before in
     let was = num .before .before .loop .inv in
     measure-stop was (num .before .loop-test .taken) (num .number-at .ensures) (m .measure .ensures) (c .if1 .taken)
@@ -77,6 +79,9 @@ add-n c = omega (arith, measured-small (turned (c .before)))
 add-count : tie.Need-add-count Inv-loop μ-loop
 add-count c = omega (arith, measured-small (turned (c .before .before)))
 
+add-respelled : tie.Need-add-respelled Inv-loop μ-loop
+add-respelled c = omega (arith, measured-small (turned (c .before .before .before)))
+
 add-page : tie.Need-add-page Inv-loop μ-loop
 add-page c = search needs
 
@@ -84,7 +89,7 @@ loop-less : tie.Need-loop-less Inv-loop μ-loop
 loop-less c = search needs
 
 loop-again : tie.Need-loop-again Inv-loop μ-loop
-loop-again c = turned (c .before .before)
+loop-again c = turned (c .before .before .before)
 
 returns-2 : tie.Need-returns-2 Inv-loop μ-loop
 returns-2 c = measure-all (c .before .loop .inv) (c .loop-test .left)
@@ -109,6 +114,7 @@ measure-pages-spec =
     returns
     add-n
     add-count
+    add-respelled
     add-page
     loop-less
     loop-again

@@ -6,6 +6,8 @@ use mathlib.Core.List.{List}
 use native.Mathlib.Omega.{arith}
 use lib.ListN.{length}
 use borrow.Author.Needs.{needs}
+use Rattle.run.specs.declared.Answer.{Answer}
+use Rattle.run.specs.Answers.{carrying}
 use Rattle.case_table.specs.declared.Header.the-variants.{Pages}
 use Rattle.case_table.specs.Check.{headerOf}
 use Rattle.case_table.specs.Grammar.{Octets}
@@ -28,6 +30,9 @@ enum-known-header c = search needs
 
 bare-answer-requires : tie.Need-bare-answer-requires
 bare-answer-requires c κs = search needs
+
+reading-of-requires : tie.Need-reading-of-requires
+reading-of-requires c κs = search needs
 
 enum-known-header-2 : tie.Need-enum-known-header-2
 enum-known-header-2 c = search needs
@@ -123,9 +128,10 @@ measure-requires c κs = search needs
 
 returns-2 : tie.Need-returns-2
 returns-2 c =
-    let h = c .before .before in
+    let h = c .before .before .before in
     let o = h .before .before in
-    promised _ _ _ (octets o) (turned-page _ _ _ _ (sym (o .header-of .ensures .0) ∙ h .header .given .1) (c .bare-answer .ensures))
+    let e = c .reading-of .ensures ∙ ap (λ (a : Answer). carrying a 0) (c .before .bare-answer .ensures) in
+    promised _ _ _ (octets o) (turned-page _ _ _ _ (sym (o .header-of .ensures .0) ∙ h .header .given .1) e)
 
 returns-3 : tie.Need-returns-3
 returns-3 c =
@@ -142,6 +148,7 @@ page-elements-spec =
     header-of-requires
     enum-known-header
     bare-answer-requires
+    reading-of-requires
     enum-known-header-2
     returns
     mul-start

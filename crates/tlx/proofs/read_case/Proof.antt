@@ -1,9 +1,9 @@
--- `read_case` meets its contract: a refused header is the case's answer (`turned-answers`), and else the pages are read; that the entries
+-- `read_case` meets its contract: a refused header is the case's answer (`turned-readings`), and else the pages are read; that the entries
 -- are octets is what `header_of` ensures.
 use mathlib.Core.Path.{sym, ap, _∙_}
 use borrow.Author.Needs.{needs}
 use Rattle.tlx.specs.CaseReadingNumbers.{beside}
-use Rattle.tlx.proofs.Rooms.{turned-answers}
+use Rattle.tlx.proofs.Rooms.{turned-readings}
 use Rattle.tlx.proofs.read_case.Statement.{statement}
 use Rattle.tlx.proofs.read_case.Tie as tie
 
@@ -27,7 +27,7 @@ returns c =
     let h = c .before .before in
     let start = h .before .before .before .before .before in
     let o = h .before .before .header-of .ensures in
-    let t = turned-answers _ _ (start .args .words .now) (sym (o .0) ∙ h .header .given .1) in
+    let t = turned-readings _ _ (start .args .words .now) (sym (o .0) ∙ h .header .given .1) in
     (ap (beside 0) (c .bare-answer .ensures) ∙ t .0, t .1, o .2)
 
 same-length : tie.Need-same-length

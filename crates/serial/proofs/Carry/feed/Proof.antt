@@ -61,21 +61,21 @@ returns c =
 could-stop-requires : tie.Need-could-stop-requires
 could-stop-requires c κs = tt
 
-kept-requires-2 : tie.Need-kept-requires-2
-kept-requires-2 c κs = tt
+repeated-requires : tie.Need-repeated-requires
+repeated-requires c κs = tt
 
 returns-2 : tie.Need-returns-2
 returns-2 c =
-    let found = c .before .before .before .before .before .before .before in
+    let found = c .before .before .before .before .before .before in
     let a = entry found .args in
-    edge-repeats (a .self) (a .piece .now) (a .ended) (a .words .now) (is-form found) (c .before .before .before .before .if1 .taken)
-    (c .kept2 .ensures) (sym (c .before .before .before .could-stop .ensures) ∙ c .before .before .if2 .taken)
+    edge-repeats (a .self) (a .piece .now) (a .ended) (a .words .now) (is-form found) (c .before .before .before .if1 .taken)
+    (c .repeated .ensures) (sym (c .before .before .could-stop .ensures) ∙ c .before .if2 .taken)
 
 bare-answer-requires-2 : tie.Need-bare-answer-requires-2
 bare-answer-requires-2 c κs = tt
 
-kept-requires-3 : tie.Need-kept-requires-3
-kept-requires-3 c κs = tt
+kept-requires-2 : tie.Need-kept-requires-2
+kept-requires-2 c κs = tt
 
 returns-3 : tie.Need-returns-3
 returns-3 c =
@@ -83,7 +83,7 @@ returns-3 c =
     let a = entry found .args in
     edge-nobodys-stopped (a .self) (a .piece .now) (a .ended) (a .words .now) (is-form found)
     (c .before .before .before .before .if1 .taken)
-    (c .kept3 .ensures ∙ ap (keptBy (a .self)) (c .before .bare-answer2 .ensures))
+    (c .kept2 .ensures ∙ ap (keptBy (a .self)) (c .before .bare-answer2 .ensures))
     (sym (c .before .before .before .could-stop .ensures) ∙ c .before .before .if2 .left)
 
 could-go-requires : tie.Need-could-go-requires
@@ -92,15 +92,15 @@ could-go-requires c κs = tt
 bare-answer-requires-3 : tie.Need-bare-answer-requires-3
 bare-answer-requires-3 c κs = tt
 
-kept-requires-4 : tie.Need-kept-requires-4
-kept-requires-4 c κs = tt
+kept-requires-3 : tie.Need-kept-requires-3
+kept-requires-3 c κs = tt
 
 returns-4 : tie.Need-returns-4
 returns-4 c =
     let found = c .before .before .before .before .before .before .before in
     let a = entry found .args in
     edge-nobodys (a .self) (a .piece .now) (a .ended) (a .words .now) (is-form found) (c .before .before .before .before .if1 .left)
-    (c .kept4 .ensures ∙ ap (keptBy (a .self)) (c .before .bare-answer3 .ensures))
+    (c .kept3 .ensures ∙ ap (keptBy (a .self)) (c .before .bare-answer3 .ensures))
     (sym (c .before .before .before .could-go .ensures) ∙ not-true _ (c .before .before .if3 .taken))
 
 sub-if4 : tie.Need-sub-if4
@@ -118,7 +118,7 @@ returns-5 c =
     let found = s5 .before .before .before .before .before in
     let a = entry found .args in
     edge-past (a .self) (a .piece .now) (a .ended) (a .words .now) (is-form found) (s5 .before .before .if1 .left) (could-be s5)
-    (c .stop .ensures ∙ ap (λ (x : Answer). stoppedBy (a .self .form) x 0) (c .before .bare-answer4 .ensures))
+    (c .stop .ensures ∙ ap (λ (x : Answer). stoppedBy (a .self .form) x 0 0) (c .before .bare-answer4 .ensures))
     (omega (arith, c .before .before .if4 .taken, taken-within s5))
 
 feed-in-requires : tie.Need-feed-in-requires
@@ -147,14 +147,14 @@ feed-spec =
     kept-requires
     returns
     could-stop-requires
-    kept-requires-2
+    repeated-requires
     returns-2
     bare-answer-requires-2
-    kept-requires-3
+    kept-requires-2
     returns-3
     could-go-requires
     bare-answer-requires-3
-    kept-requires-4
+    kept-requires-3
     returns-4
     sub-if4
     bare-answer-requires-4

@@ -1,0 +1,3 @@
+pub mod TestsRight
+mod Scan
+pub mod OneAnswer

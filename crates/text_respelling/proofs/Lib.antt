@@ -1,0 +1,4 @@
+mod Characters
+mod Counting
+mod ReadingFirst
+pub mod OneAnswer

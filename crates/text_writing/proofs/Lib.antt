@@ -1,0 +1,4 @@
+pub mod Packed
+mod Places
+pub mod Runs
+pub mod OneAnswer
