@@ -38,12 +38,11 @@ module _ (l : List ℕ) where
       (omega arith, ap (zeroFree true) (at-place l 1 h) ∙ rw (ne-eqb (getD l 1 0) 0x30 n) refl)
 
   pub no-first : length l ≤ 1 → Left 2
-  no-first h =
-      (
-        omega arith,
-        ap (zeroFree true) (drop-of-length-le l h)
+  no-first h = (
+    omega arith,
+    ap (zeroFree true) (drop-of-length-le l h)
         ∙ sym (ap (zeroFree (eqb (getD l 1 0) 0x3B)) (drop-of-length-le l {i = 2} (omega arith))),
-      )
+  )
 
   module _ (i : ℕ) (was : Left i) where
     abbrev begins : Bool
@@ -60,12 +59,11 @@ module _ (l : List ℕ) where
     goes-on : i < length l → (getD l i 0 ≡ 0x30 → begins ≡ false) → Left (i + 1)
     goes-on h n =
         let o = getD l i 0 in
-        let back : i + 1 - 1 ≡ i = omega arith in
-        (
+        let back : i + 1 - 1 ≡ i = omega arith in (
           omega (arith, was .0),
           here h
-          ∙ by-octet begins (eqb o 0x30) (zeroFree (eqb o 0x3B) (drop (i + 1) l)) (λ e. n (eqb-true o 0x30 e))
-          ∙ ap (λ (k : ℕ). zeroFree (eqb (getD l k 0) 0x3B) (drop (i + 1) l)) (sym back),
+              ∙ by-octet begins (eqb o 0x30) (zeroFree (eqb o 0x3B) (drop (i + 1) l)) (λ e. n (eqb-true o 0x30 e))
+              ∙ ap (λ (k : ℕ). zeroFree (eqb (getD l k 0) 0x3B) (drop (i + 1) l)) (sym back),
         )
 
     pub left-other : i < length l → (getD l i 0 ≡ 0x30 → ⊥) → Left (i + 1)

@@ -167,7 +167,8 @@ module _ (f : Form) where
       → wordCanonical f c l 2 ≡ isCanonical f (o ∷ l ∷ []) (One c)
   unfolding spellElement
   pair-test o m l c e q =
-      sym (ap (λ (x : Octet). ifThere x (λ o. sameOctets (o ∷ l ∷ []) (spelt f c)) (wordCanonical f c l 2)) (sym (mark-first f o m e .is-it))
+      sym (ap (λ (x : Octet). ifThere x (λ o. sameOctets (o ∷ l ∷ []) (spelt f c)) (wordCanonical f c l 2))
+      (sym (mark-first f o m e .is-it))
       ∙ at-member (λ s. ifThere (octetIn (alphabetOf f .marks) (markOf s)) (λ o. sameOctets (o ∷ follower s ∷ []) (spelt f (character s)))
       (wordCanonical f (character s) (follower s) 2))
       (λ s. wordCanonical f (character s) (follower s) 2) (filled-member m l c q) (tested f .pair))

@@ -19,7 +19,8 @@ pub fn word_is_canonical(form: Form, word: u32, last: u8, size: usize) -> bool
     true
 }
 
-// Of a control sequence, by its octets up to its final: no value begins with the digit 0. 01: "Values have no leading zeros, 0 is the empty sub-string".
+// Of a control sequence, by its octets up to its final: no value begins with the digit 0, behind 9B or behind a 3B. 01: "Values have no
+// leading zeros, 0 is the empty sub-string".
 pub fn sequence_is_canonical(octets: &[u8]) -> bool
     ensures { λ r. ⌜ SequenceIsCanonicalPromise (now (octets .entry)) r ⌝ }
 {

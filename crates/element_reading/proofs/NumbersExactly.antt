@@ -5,7 +5,7 @@ use Prim.Native.Nat.{ℕ, _+_}
 use mathlib.Core.Path.{_≡_, refl, sym, ap, ap₂, _∙_, subst, subst₂}
 use mathlib.Core.Logic.{_↔_}
 use mathlib.Core.Bool.{Bool, true, false}
-use mathlib.Core.List.{List, []}
+use mathlib.Core.List.{List}
 use native.Mathlib.Omega.{arith}
 use lib.ListN.{length, take, drop, length-drop, drop-of-length-le}
 use lib.Seq.{take-append-seam}
@@ -19,7 +19,7 @@ use Rattle.run.proofs.Choices.{is-false}
 use Rattle.sorts.specs.declared.Form.{Form}
 use Rattle.element_words.specs.declared.Element.{Element}
 use Rattle.element_words.specs.Words.{wordsOf}
-use Rattle.element_spelling.specs.ElementOctets.{CanonicalElement, isCanonical}
+use Rattle.element_spelling.specs.ElementOctets.{isCanonical}
 use Rattle.element_spelling.proofs.Writer.{is-canonical}
 use Rattle.element_reading.specs.declared.Step.{Step}
 use Rattle.element_reading.specs.Grammar.{Spells}

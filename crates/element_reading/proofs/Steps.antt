@@ -129,7 +129,8 @@ module _ (f : Form) (text : List ℕ) where
     pub follower-end : length text ≤ i → Stopped 4 at i ≡ stepBy f text at (followerHead f m u (i - at) (drop i text))
     unfolding followerHead
     follower-end h =
-        sym (ap (λ (l : List ℕ). stepBy f text at (followerHead f m u (i - at) l)) (drop-of-length-le text h) ∙ ap (Stopped 4 at) (omega arith))
+        sym (ap (λ (l : List ℕ). stepBy f text at (followerHead f m u (i - at) l)) (drop-of-length-le text h)
+        ∙ ap (Stopped 4 at) (omega arith))
 
     follower-here : i < length text
         → stepBy f text at (followerHead f m u (i - at) (drop i text))
@@ -193,7 +194,8 @@ module _ (f : Form) (text : List ℕ) where
 
     -- the follower of a mark, d octets behind the first
     pub follower-behind : (d m : ℕ) (u : Bool)
-        → stepBy f text at (followerHead f m u (at + d - at) (drop (at + d) text)) ≡ stepBy f text at (followerHead f m u d (drop (at + d) text))
+        → stepBy f text at (followerHead f m u (at + d - at) (drop (at + d) text))
+        ≡ stepBy f text at (followerHead f m u d (drop (at + d) text))
     follower-behind d m u =
         ap (λ (k : ℕ). stepBy f text at (followerHead f m u k (drop (at + d) text))) (let n : at + d - at ≡ d = omega arith in n)
 
@@ -211,7 +213,8 @@ module _ (f : Form) (text : List ℕ) where
         ∙ step-right f text at
 
     -- one octet is the element
-    one-here : (w : ℕ) (b : Bool) → b ≡ wordCanonical f w (getD text at 0) 1 → Read (One w) (at + 1) b ≡ stepBy f text at (element (One w) 1)
+    one-here : (w : ℕ) (b : Bool) → b ≡ wordCanonical f w (getD text at 0) 1
+        → Read (One w) (at + 1) b ≡ stepBy f text at (element (One w) 1)
     one-here w b z =
         let j : at ≡ at + 1 - 1 = omega arith in
         ap (Read (One w) (at + 1)) (z ∙ ap (λ (x : ℕ). wordCanonical f w (getD text x 0) 1) j)

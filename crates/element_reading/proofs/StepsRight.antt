@@ -3,8 +3,8 @@
 -- Assumes nothing.
 use Prim.Native.Nat.{ℕ, _+_, _-_}
 use mathlib.Core.Path.{_≡_, refl, sym, ap, ap₂, _∙_}
-use mathlib.Core.Bool.{Bool, true, false}
-use mathlib.Core.List.{List, [], _∷_, _++_}
+use mathlib.Core.Bool.{true}
+use mathlib.Core.List.{List, _∷_, _++_}
 use native.Mathlib.Omega.{arith}
 use lib.ListN.{length, take, drop, getD}
 use lib.Seq.{getD-drop, take-append-seam}
@@ -19,7 +19,6 @@ use Rattle.element_spelling.specs.ElementOctets.{isCanonical}
 use Rattle.canonical_tests.specs.Tests.{wordCanonical}
 use Rattle.canonical_tests.proofs.TestsRight.{alone-test, shifted-test, underlined-test, pair-test, shifted-pair-test}
 use Rattle.canonical_tests.proofs.TestsRight.{underlined-pair-test, control-test, sequence-test}
-use Rattle.element_reading.specs.declared.Step.{Step}
 use Rattle.element_reading.specs.declared.Step.the-variants.{Element as Read}
 use Rattle.element_reading.specs.Grammar.{Awaits, Spells}
 use Rattle.element_reading.specs.ElementHead.{headIn, stepOf, stepAt}

@@ -35,8 +35,8 @@ abbrev pub isWritten : Octet → ℕ → Bool
 isWritten (Is w) o = eqb o w
 isWritten Absent o = true
 
--- what an octet o of the form f is, by its sort: a spacing character where o is written for it, and so canonical; a mark is its row, counted
--- from there
+-- what an octet o of the form f is, by its sort: a spacing character where o is written for it, and so canonical; a mark is its row,
+-- counted from there
 abbrev pub codeOf : Form → ℕ → Sort → ℕ
 codeOf f o (Graphic c) = pick (isWritten (octetIn (alphabetOf f .writes) c) o) c neither
 codeOf f o (Mark m) = noCharacter + rowOf m

@@ -1,7 +1,7 @@
 -- How many pieces of a run do not spell their elements by another grammar, as a head's tags count them.
 -- Assumes nothing.
 use Prim.Native.Nat.{ℕ, suc, _+_, _≤_}
-use mathlib.Core.Path.{_≡_, refl, sym, ap, ap₂, _∙_, subst}
+use mathlib.Core.Path.{_≡_, refl, sym, ap, _∙_, subst}
 use mathlib.Core.Logic.{_↔_}
 use mathlib.Core.Bool.{Bool, true, false}
 use mathlib.Core.List.{List, [], _∷_, _++_, map}
@@ -9,7 +9,7 @@ use native.Mathlib.Nat.{zero-add}
 use native.Mathlib.Omega.{arith}
 use lib.ListN.{length, length-append, length-map}
 use Rattle.run.specs.Choice.{pick}
-use Rattle.run.specs.Head.{Head, Outcome, accepted, refusal, outcome}
+use Rattle.run.specs.Head.{Head, accepted, outcome}
 use Rattle.run.specs.Grammar.{Run, done, more, RunOf, Reads}
 use Rattle.run.specs.Answers.{given}
 use Rattle.run.specs.Before.{Standing, movedUp, whats, before}
@@ -19,7 +19,7 @@ use Rattle.run.specs.Tally.{Apart, none, spelt, apart, noted, tally, tal
 use Rattle.run.proofs.Outcomes.{accepts}
 use Rattle.run.proofs.Answers.{given-length}
 use Rattle.run.proofs.Before.{before-accepted, before-joined}
-use Rattle.run.proofs.Tags.{run-tagged, run-untagged, tagged-reads, untag-outcome}
+use Rattle.run.proofs.Tags.{run-tagged, tagged-reads}
 
 -- ---- the entries that tags give
 

@@ -23,7 +23,8 @@ use Rattle.text_reading.proofs.ReadTexts.{accepted-exactly, refused-exactly}
 use Rattle.serial.specs.SerialNumbers.{UpToFault, WordsUpToFault, NewWords, GoesOn, FedRow}
 use Rattle.serial.specs.Feeding.{stopsPage}
 use Rattle.open_elements.proofs.Faults.{fault-small}
-use Rattle.serial.proofs.WordsUpTo.{words-are, run-respelled, goes-respelled}
+use Rattle.serial.proofs.WordsUpTo.{words-are, goes-respelled}
+use Rattle.text_reading.proofs.Respelled.{respelled-exactly}
 
 -- a refusal that stops the page
 is-fault : (r : ℕ) (ended : Bool) → 1 ≤ r → (r ≡ 4 → ended ≡ true) → stopsPage r ended ≡ true
@@ -108,7 +109,7 @@ module _ (f : Form) (taken piece : List ℕ) (ended : Bool) (words : List ℕ) w
       ∙ ap₂ (λ (i c : ℕ). (answer 0 i (length so-far) c, told-number, length new, over words new)) (at .element-number) (ap length w)
       ∙ with-words _ (goes-respelled f so-far (GoesOn.unfinished at) counts) n
   row-told (FedRow.accepted {ws} {ps} {es} {k} within n room run counts end) =
-      roomy within n room (accepted-exactly f so-far es .1 (ps, run)) ∙ with-words _ (run-respelled f so-far run k .1 counts) n
+      roomy within n room (accepted-exactly f so-far es .1 (ps, run)) ∙ with-words _ (respelled-exactly f run k .1 counts) n
 
   pub one-row : {a b : Answer} {i j k l : ℕ} {after after′ : List ℕ} → FedRow f taken piece ended words a i k after
       → FedRow f taken piece ended words b j l after′ → (a ≡ b) × (i ≡ j) × (k ≡ l) × (after ≡ after′)

@@ -50,7 +50,8 @@ use Rattle.serial.specs.Calls.{
   AllGo,
 }
 use Rattle.open_elements.proofs.Faults.{fault-stays, fault-small}
-use Rattle.serial.proofs.WordsUpTo.{words-are, run-respelled}
+use Rattle.serial.proofs.WordsUpTo.{words-are}
+use Rattle.text_reading.proofs.Respelled.{respelled-exactly}
 use Rattle.serial.proofs.Holding.{Open, Holds, Fares, fares}
 use Rattle.serial.proofs.Repeating.{repeated}
 
@@ -489,7 +490,7 @@ goes-on {f} {octets} {c} h = subst (λ (l : List ℕ). GoesOn f l (h .run .0) (h
 -- and the carry counts its pieces that are not canonical
 pub carries-apart : {f : Form} {octets : List ℕ} {c : Carry} (h : Holds f octets c)
     → Apart (CanonicalElement f) (h .run .0) (h .es) (c .respelled)
-carries-apart {f} {c = c} h = run-respelled f (h .front) (h .run .1) (c .respelled) .0 (sym (h .respelled))
+carries-apart {f} {c = c} h = respelled-exactly f (h .run .1) (c .respelled) .0 (sym (h .respelled))
 
 pub fed-row : {f : Form} {octets : List ℕ} {c : Carry} {piece : List ℕ} {ended : Bool} {words : List ℕ} {fed : Fed} {after : List ℕ}
     → Fares f octets c piece ended words fed after → FedRow f octets piece ended words (fed .answer) (fed .respelled) (fed .handed) after
@@ -500,7 +501,7 @@ fed-row {f} {octets} {c} {piece} {ended} {words} (Fares.goes {ws} {next} within 
     subst (λ (a : Answer). FedRow f octets piece ended words a (next .respelled) (length ws) (over words ws)) (sym (hn .says))
     (FedRow.so-far within new room (goes-on hn) (carries-apart hn) more)
 fed-row {f} {octets} {piece = piece} (Fares.finished within new room run ended) =
-    FedRow.accepted within new room (run .1) (run-respelled f (octets ++ piece) (run .1) _ .0 refl) ended
+    FedRow.accepted within new room (run .1) (respelled-exactly f (run .1) _ .0 refl) ended
 
 -- what waits after it, where it ends the page: nothing
 pub none-waits : {f : Form} {octets : List ℕ} {c : Carry} {piece : List ℕ} {ended : Bool} {words : List ℕ} {fed : Fed} {after : List ℕ}

@@ -57,7 +57,8 @@ use Rattle.serial.specs.Calls.{
   Carried,
 }
 use Rattle.open_elements.proofs.Faults.{fault-small}
-use Rattle.serial.proofs.WordsUpTo.{words-are, words-some, run-respelled}
+use Rattle.serial.proofs.WordsUpTo.{words-are, words-some}
+use Rattle.text_reading.proofs.Respelled.{respelled-exactly}
 use Rattle.serial.proofs.Holding.{Open, Holds, words-sofar, Fares, fares}
 use Rattle.serial.proofs.OneRow.{one-new}
 use Rattle.serial.proofs.Repeating.{Says, says-repeats}
@@ -207,7 +208,7 @@ module _ {form : ℕ} {f : Form} (is : formOf form ≡ Is f) {calls : List Call}
       let run = accepted-exactly f (page calls) (read .0) .0 (read .1) in
       let carried = carrying-it four (respelledBefore f (page calls)) (sym (ap (λ (b : Answer). b .number) is-four) ∙ zero) in
       let fifth : a .respelled ≡ respelledBefore f (page calls) = ap (λ (b : ReadAnswer). b .respelled) (whole ∙ sym carried) in
-      (fifth, run .0, read .0, run .1, run-respelled f (page calls) (run .1) (a .respelled) .0 (sym fifth))
+      (fifth, run .0, read .0, run .1, respelled-exactly f (run .1) (a .respelled) .0 (sym fifth))
 
   -- While the page goes on, each call is answered by its row, of the octets taken so far.
   pub call-row : AllGo calls → (x : Call) → FeedPromise d (x .piece) (x .ended) (x .words) (x .fed) (x .after)

@@ -3,22 +3,18 @@
 -- Assumes nothing.
 use Prim.Native.Nat.{ℕ}
 use mathlib.Core.Path.{_≡_, refl, sym, _∙_, subst}
-use mathlib.Core.Logic.{_↔_}
 use mathlib.Core.List.{List}
 use Rattle.run.specs.Head.{Outcome, accepted, refusal}
-use Rattle.run.specs.Grammar.{Run}
 use Rattle.run.specs.Tally.{Apart}
 use Rattle.run.specs.Answers.{given}
 use Rattle.run.proofs.Outcomes as outcomes
 use Rattle.run.proofs.Before.{given-before}
-use Rattle.run.proofs.Tallies.{apart-exactly}
 use Rattle.sorts.specs.declared.Form.{Form}
 use Rattle.element_words.specs.declared.Element.{Element}
 use Rattle.element_words.specs.Words.{wordsOf}
-use Rattle.element_spelling.specs.ElementOctets.{CanonicalElement, isCanonical}
-use Rattle.element_reading.specs.Grammar.{Spells}
+use Rattle.element_spelling.specs.ElementOctets.{CanonicalElement}
 use Rattle.element_reading.proofs.Reader.{reads}
-use Rattle.element_reading.proofs.ReadBack.{canonical-decides}
+use Rattle.text_reading.proofs.Respelled.{respelled-exactly}
 use Rattle.text_loops.specs.Fronts.{readIn, wordsBefore, respelledBefore}
 use Rattle.open_elements.proofs.Fronts.{fault-words, refused-read, fault-respelled}
 use Rattle.serial.specs.SerialNumbers.{UpToFault, WordsUpToFault, GoesOn}
@@ -43,14 +39,9 @@ module _ (f : Form) (s : List ℕ) where
           let z = refused-read f s r n p d q in
           subst (WordsUpToFault f s) (sym (z .words)) (WordsUpToFault.words-of (UpToFault.to-a-fault (z .fault)))
 
-  -- of a run, how many of its pieces are not canonical,
-  pub run-respelled : {ps : List (List ℕ)} {es : List Element} → Run (Spells f) s ps es → (k : ℕ)
-      → (respelledBefore f s ≡ k) ↔ Apart (CanonicalElement f) ps es k
-  run-respelled r k = apart-exactly (isCanonical f) (reads f) (canonical-decides f) r k
-
-  -- and of one that goes on
+  -- of octets that go on, how many of their pieces are not canonical
   pub goes-respelled : {ps : List (List ℕ)} {es : List Element} {k : ℕ} → GoesOn f s ps es → Apart (CanonicalElement f) ps es k
       → respelledBefore f s ≡ k
-  goes-respelled {k = k} (GoesOn.finished r) h = run-respelled r k .1 h
+  goes-respelled {k = k} (GoesOn.finished r) h = respelled-exactly f r k .1 h
   goes-respelled {k = k} (GoesOn.unfinished at) h =
-      fault-respelled at ∙ apart-exactly (isCanonical f) (reads f) (canonical-decides f) (at .run .1) k .1 h
+      fault-respelled at ∙ respelled-exactly f (at .run .1) k .1 h

@@ -1,33 +1,30 @@
 -- How many elements were not canonical, as the loops over a text count them: behind an element, behind a run of what a lent table has,
 -- behind a pair of it; and where a loop stops.
 -- Assumes nothing.
-use Prim.Native.Nat.{ℕ, _+_, _≤_, _<_}
+use Prim.Native.Nat.{ℕ, _+_, _≤_}
 use mathlib.Core.Path.{_≡_, refl, sym, ap, ap₂, _∙_, subst₂}
-use mathlib.Core.Bool.{Bool, true, false}
+use mathlib.Core.Bool.{Bool, true}
 use mathlib.Core.List.{List, [], _∷_, _++_, map}
 use native.Mathlib.Nat.{add-zero}
 use native.Mathlib.Omega.{arith}
 use borrow.Author.Tests.{eqb-true}
-use lib.Dec.{eqb}
-use lib.ListN.{length, take, drop, length-map}
+use lib.ListN.{length, drop, length-map}
 use Rattle.run.specs.Choice.{pick}
 use Rattle.run.specs.Head.{Head, element, refused, none}
 use Rattle.run.specs.Grammar.{Run, Reads}
 use Rattle.run.specs.Answers.{given}
-use Rattle.run.specs.Loops.{Bounded, Counted}
-use Rattle.run.specs.Tagged.{Tagged, tagHead, untagged}
+use Rattle.run.specs.Loops.{Bounded}
+use Rattle.run.specs.Tagged.{Tagged, tagHead}
 use Rattle.run.specs.Tally.{noted}
-use Rattle.run.proofs.Loops.{count-start, count-turn, count-turns, count-small}
+use Rattle.run.proofs.Loops.{count-start, count-turn, count-turns}
 use Rattle.run.proofs.Before.{counted-end, counted-stop}
 use Rattle.run.proofs.Tags.{tagged-reads}
 use Rattle.run.proofs.Tallies.{noted-size, noted-few, tally-most}
 use Rattle.sorts.specs.declared.Form.{Form}
-use Rattle.sorts.specs.declared.Sort.the-variants.{Graphic}
 use Rattle.sorts.specs.declared.Octet.{Octet}
 use Rattle.sorts.specs.declared.Octet.the-variants.{Is, Absent}
 use Rattle.sorts.specs.Cells.{octetIn}
 use Rattle.sorts.specs.Forms.{alphabetOf}
-use Rattle.sorts.specs.Sorts.{sortIn}
 use Rattle.spelling.specs.CanonicalSpelling.{Codes, Canonical, IsThat, Chosen}
 use Rattle.lent_tables.specs.CodeTables.{isWritten, ListedPair}
 use Rattle.lent_tables.proofs.LentEntries.{WrittenOctet}

@@ -30,7 +30,7 @@ const SHORT: usize = 12;
 
 // From here on no form has an octet for the character of a pair: the pair is its canonical spelling. Below stands what no pair spells, and
 // the characters of ASCII, which are read as elements.
-const PAIRS_FROM: u32 = 0x80;
+pub const PAIRS_FROM: u32 = 0x80;
 
 // 01: "the text reader puts its own count there": a step's answer, after n elements.
 pub fn step_answer(step: Step, n: usize) -> Answer

@@ -20,10 +20,6 @@ ghost use Rattle.text_reading.specs.ReadingNumbers.{limit};
 ghost use Rattle.text_respelling.specs.Parts.{Lent, characterIn, CountedRespelt, readingFirst, RespeltAnswer};
 ghost use Rattle.text_respelling.specs.Promises.{RespellPromise};
 
-// From here on no form has an octet for the character of a pair: the pair is its canonical spelling. Below stand the characters of ASCII,
-// which forms 1 and 2 have an octet for.
-const PAIRS_FROM: u32 = 0x80;
-
 // The character at a place, as the lent tables read it, and how many octets it has. 0 is none.
 pub struct Character {
     pub code: u32,
@@ -74,7 +70,7 @@ fn character_at(codes: &[u16; 256], squares: &[[u16; 53]; 13], text: &[u8], at: 
         return Character { code: 0, size: 2 };
     }
     let paired = lent_tables::paired_in(squares, code, text[at + 1]);
-    if paired < PAIRS_FROM {
+    if paired < text_loops::PAIRS_FROM {
         return Character { code: 0, size: 2 };
     }
     Character {

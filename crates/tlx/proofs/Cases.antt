@@ -39,7 +39,7 @@ use Rattle.tlx.specs.declared.Page.the-variants.{Is as IsPage, NoPage}
 use Rattle.tlx.specs.CaseReadingNumbers.{AllSpelt, none, more, Faulty, AcceptedCase, RefusedCase, of-case, of-page, CaseTable}
 use Rattle.tlx.specs.CaseReadingNumbers.{Size, CaseTells, beside, withoutFifth}
 use Rattle.tlx.specs.CaseReading.{CaseOutcome, all, fault, joinPages, afterPage, readPage, readPages, readCase}
-use Rattle.tlx.specs.CaseReading.{readCaseAnswer, readCaseReading, caseRespelled, carryingCase, readCaseWords, aloneReading, pageAnswer}
+use Rattle.tlx.specs.CaseReading.{readCaseAnswer, caseRespelled, carryingCase, readCaseWords, aloneReading, pageAnswer}
 use Rattle.tlx.specs.CaseReading.{outcomeOf, caseAnswer, pageWords}
 use Rattle.tlx.specs.Promises.{ReadCasePromise}
 use Rattle.tlx.proofs.Pages.{join-none, join-join, page-read}

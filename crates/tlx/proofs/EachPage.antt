@@ -86,7 +86,8 @@ module _ (case : List ℕ) (form : ℕ) (f : Form) (is-form : formOf form ≡ Is
   -- A page of a case is within the limit, so it is answered by its reading alone, as a text of its octets: 12 is not asked.
   pub page-read : (k : ℕ) → k < length pages
       → pageAnswer case k
-      ≡ IsPage (carrying (roomyAnswer wordsOf (length (getD pages k [])) (readIn f (getD pages k []))) (respelledBefore f (getD pages k [])))
+      ≡ IsPage (carrying (roomyAnswer wordsOf (length (getD pages k [])) (readIn f (getD pages k [])))
+      (respelledBefore f (getD pages k [])))
   page-read k h =
       let page = getD pages k [] in
       let s = laid .short page (member-at pages [] k h) in
@@ -106,14 +107,16 @@ module _ (case : List ℕ) (form : ℕ) (f : Form) (is-form : formOf form ≡ Is
       ≡ IsPage (reading (answer 0 (length fs) (length (getD pages k [])) (length (given wordsOf fs))) (respelledBefore f (getD pages k [])))
   page-accepted k h fs r =
       page-read k h
-      ∙ ap (λ (x : Outcome Element). IsPage (carrying (roomyAnswer wordsOf (length (getD pages k [])) x) (respelledBefore f (getD pages k []))))
+      ∙ ap
+      (λ (x : Outcome Element). IsPage (carrying (roomyAnswer wordsOf (length (getD pages k [])) x) (respelledBefore f (getD pages k []))))
       (text.accepted-exactly f (getD pages k []) fs .1 r)
 
   -- In an accepted case every page is accepted by itself,
   pub each-accepted : (es : List Element) → AllSpelt f pages es → (k : ℕ) → k < length pages
       → (fs : List Element) × RunOf (Spells f) (getD pages k []) fs
       × (pageAnswer case k
-      ≡ IsPage (reading (answer 0 (length fs) (length (getD pages k [])) (length (given wordsOf fs))) (respelledBefore f (getD pages k []))))
+      ≡ IsPage (reading (answer 0 (length fs) (length (getD pages k [])) (length (given wordsOf fs)))
+      (respelledBefore f (getD pages k []))))
   each-accepted es s k h = let r = spelt-at s k h in (r .0, r .1, page-accepted k h (r .0) (r .1))
 
   -- and where every page is, the case is.
@@ -146,7 +149,8 @@ module _ (case : List ℕ) (form : ℕ) (f : Form) (is-form : formOf form ≡ Is
     pub before-named : (k : ℕ) → k < g
         → (fs : List Element) × RunOf (Spells f) (getD pages k []) fs
         × (pageAnswer case k
-        ≡ IsPage (reading (answer 0 (length fs) (length (getD pages k [])) (length (given wordsOf fs))) (respelledBefore f (getD pages k []))))
+        ≡ IsPage (reading (answer 0 (length fs) (length (getD pages k [])) (length (given wordsOf fs)))
+        (respelledBefore f (getD pages k []))))
     before-named k h =
         let l : k < length (faulty .before) = omega (arith, faulty .named) in
         let s = spelt-at (faulty .spelt) k l in

@@ -213,7 +213,9 @@ module _ {case : List ℕ} {form pages start page n count respelled : ℕ} (was 
 
     -- its fifth number, of an accepted page: the page's own, and at most its elements
     fifth : m .number ≡ 0 → r .respelled ≡ respelledIn form the-page
-    fifth z = ap (λ (x : ReadAnswer). x .respelled) all-five ∙ rw (eq-eqb (aloneAnswer (form, the-page) .number) 0 (sym (ap (λ (x : Answer). x .number) a) ∙ z)) refl
+    fifth z =
+        let t = eq-eqb (aloneAnswer (form, the-page) .number) 0 (sym (ap (λ (x : Answer). x .number) a) ∙ z) in
+        ap (λ (x : ReadAnswer). x .respelled) all-five ∙ rw t refl
 
     fifth-few : (fs : List Element) → readIn g the-page ≡ accepted fs → respelledIn form the-page ≤ length fs
     fifth-few fs q = omega (arith, respelled-is form g (was .read .right .is-form) the-page, respelled-few g the-page fs q)

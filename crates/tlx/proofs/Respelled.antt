@@ -19,7 +19,7 @@ use Rattle.case_table.specs.Layout.{ofForm}
 use Rattle.case_table.specs.Grammar.{CaseOf}
 use Rattle.case_table.proofs.Laid.{case-header, case-pages}
 use Rattle.tlx.specs.declared.CaseAnswer.{CaseAnswer}
-use Rattle.tlx.specs.CaseReadingNumbers.{AllSpelt, none, more, PagesApart, AcceptedCase}
+use Rattle.tlx.specs.CaseReadingNumbers.{AllSpelt, none, more, PagesApart}
 use Rattle.tlx.specs.CaseReading.{pagesRespelled, caseRespelled, readCaseAnswer}
 use Rattle.tlx.specs.Promises.{ReadCasePromise}
 use Rattle.tlx.proofs.Cases.{read-case-tells, case-accepted, pages-accepted, read-laid}
@@ -99,8 +99,7 @@ module _ (case words : List ℕ) (r : CaseAnswer) (after : List ℕ) (promise : 
     spelt : (es : List Element) × AllSpelt f pages es × (r .answer .element ≡ length es)
     spelt =
         let t = read-case-tells case words r after promise .is-0 accepts in
-        let q = case-accepted case (promise .2) (t .0) .1 (t .1) in
-        (
+        let q = case-accepted case (promise .2) (t .0) .1 (t .1) in (
           t .0,
           pages-accepted form f is-form pages (t .0) .0 (sym (read-laid case form f pages is-form laid) ∙ q),
           ap (λ (x : CaseAnswer). x .answer .element) (t .3),

@@ -8,10 +8,14 @@ enum-told : tie.Need-enum-told
 enum-told c = search needs
 
 returns : tie.Need-returns
-returns c = let a = c .before .before .before .args in basic-number-sign (a .word) (a .last) (a .size) _ (c .before .enum-told .given .1) (c .if1 .taken)
+returns c =
+    let a = c .before .before .before .args in
+    basic-number-sign (a .word) (a .last) (a .size) _ (c .before .enum-told .given .1) (c .if1 .taken)
 
 returns-2 : tie.Need-returns-2
-returns-2 c = let a = c .before .before .before .args in basic-other (a .word) (a .last) (a .size) _ (c .before .enum-told .given .1) (c .if1 .left)
+returns-2 c =
+    let a = c .before .before .before .args in
+    basic-other (a .word) (a .last) (a .size) _ (c .before .enum-told .given .1) (c .if1 .left)
 
 returns-3 : tie.Need-returns-3
 returns-3 c = let a = c .before .before .args in ascii (a .word) (a .last) (a .size) (a .form) (c .before .match .keys2) (c .if2 .taken)

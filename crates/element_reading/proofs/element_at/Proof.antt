@@ -1,7 +1,8 @@
 -- By the sort of the first octet (graphic-here, first-here, control-here, refused-here), and at the end that none is left (none-left).
 use mathlib.Core.Path.{sym, _∙_}
 use native.Mathlib.Omega.{arith}
-use Rattle.element_reading.proofs.Steps.{none-left, graphic-here, first-here, control-here, refused-here, follower-behind, sequence-first}
+use Rattle.element_reading.proofs.Steps.{none-left, graphic-here, first-here, control-here, refused-here}
+use Rattle.element_reading.proofs.Steps.{follower-behind, sequence-first}
 use Rattle.element_reading.proofs.NumbersExactly.{step-kept}
 use borrow.Author.Needs.{needs}
 use Rattle.element_reading.proofs.element_at.Statement.{statement}

@@ -47,8 +47,8 @@ graphic-taken : (c : tie.After-not-canonical Inv-loop μ-loop) →
     let at = known .before .before .before .before .before .before in
     let a = at .before .before .before .args in
     let l = at .loop in
-    TakenBoth (a .form) (a .text .now) (a .into .now) (l .at + 1) (l .elements + 1) (l .filled + 1) (l .respelled + c .not-canonical .result)
-    (set (l .into) (l .filled) (known .before .sort .given .0 .0))
+    TakenBoth (a .form) (a .text .now) (a .into .now) (l .at + 1) (l .elements + 1) (l .filled + 1)
+    (l .respelled + c .not-canonical .result) (set (l .into) (l .filled) (known .before .sort .given .0 .0))
 graphic-taken c =
     let known = c .before .before in
     let sort = known .before in
