@@ -166,7 +166,7 @@ struct oak_carry {
     uint8_t held[OAK_MOST_HELD];
 };
 
-/* What oak_fresh and oak_feed give: the carry for the next call, the five numbers since fresh, and how many words were handed out. */
+/* What oak_fresh and oak_feed give: the carry for the next call, the five numbers, and how many words were handed out. */
 struct oak_fed {
     struct oak_carry carry;
     struct oak_reading answer;

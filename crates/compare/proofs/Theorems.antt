@@ -15,6 +15,7 @@ use Rattle.run.specs.Choice.{pick}
 use Rattle.run.specs.Tagged.{untagged}
 use Rattle.run.specs.Grammar.{Run, done, more, RunOf}
 use Rattle.run.specs.Tally.{Apart}
+use Rattle.run.specs.declared.ReadAnswer.{ReadAnswer}
 use Rattle.run.specs.Answers.{answer, given}
 use Rattle.run.proofs.Outcomes as outcomes
 use Rattle.run.proofs.Outcomes.{run-by}
@@ -27,7 +28,8 @@ use Rattle.element_reading.proofs.Reader.{reads}
 use Rattle.element_spelling.specs.ElementOctets.{CanonicalElement, Held}
 use Rattle.element_spelling.proofs.Writer.{canonical-proper, one-spelling}
 use Rattle.text_loops.specs.Fronts.{respelledBefore}
-use Rattle.text_reading.proofs.Respelled.{respelled-exactly}
+use Rattle.text_reading.specs.Promises.{MeasurePromise}
+use Rattle.text_reading.proofs.Respelled.{respelled-exactly, reading-carries, reading-few}
 use Rattle.element_reading.proofs.ReadBack.{canonical-spells, read-held}
 use Rattle.element_reading.proofs.Places.{reading-number}
 use Rattle.compare.specs.declared.Comparison.{Comparison}
@@ -260,6 +262,13 @@ module _ (form : ℕ) (first second : List ℕ) {f : Form} (readable : FormAndLi
   canonical-otherwise r c =
       otherwise-exactly (r .1) (run-by (λ p e k. canonical-spells f k) (c .1)) (respelledBefore f first) .1
       (apart-otherwise (respelled-exactly f (r .1) (respelledBefore f first) .0 refl) (c .1))
+
+  -- So it is the number that measuring the text carries.
+  pub measured-otherwise : {m : ReadAnswer} → MeasurePromise form first m → {es : List Element} → RunOf (Spells f) first es
+      → RunOf (CanonicalElement f) second es → C .otherwise ≡ m .respelled
+  measured-otherwise is r c =
+      let z = reading-few form f (readable .is-form) first (readable .first-within) is r in
+      canonical-otherwise r c ∙ sym (reading-carries form first (length first) is f (readable .is-form) (z .0))
 
 -- ======== "on a refusal, it is the first's empty end", and so it is where both mean the same
 

@@ -20,11 +20,11 @@ use Rattle.element_words.specs.Words.{wordsOf}
 use Rattle.text_loops.specs.Fronts.{readIn, wordsBefore, respelledBefore}
 use Rattle.text_reading.specs.ReadingNumbers.{limit}
 use Rattle.text_reading.proofs.ReadTexts.{accepted-exactly, refused-exactly}
+use Rattle.text_reading.proofs.Respelled.{respelled-exactly}
 use Rattle.serial.specs.SerialNumbers.{UpToFault, WordsUpToFault, NewWords, GoesOn, FedRow}
 use Rattle.serial.specs.Feeding.{stopsPage}
 use Rattle.open_elements.proofs.Faults.{fault-small}
 use Rattle.serial.proofs.WordsUpTo.{words-are, goes-respelled}
-use Rattle.text_reading.proofs.Respelled.{respelled-exactly}
 
 -- a refusal that stops the page
 is-fault : (r : ℕ) (ended : Bool) → 1 ≤ r → (r ≡ 4 → ended ≡ true) → stopsPage r ended ≡ true

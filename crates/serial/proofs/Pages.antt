@@ -29,6 +29,7 @@ use Rattle.element_reading.proofs.Reader.{is-or}
 use Rattle.text_loops.specs.Fronts.{readIn, wordsBefore, respelledBefore}
 use Rattle.text_reading.specs.ReadingNumbers.{limit, ReadingFault}
 use Rattle.text_reading.proofs.ReadTexts.{accepted-exactly, refused-exactly}
+use Rattle.text_reading.proofs.Respelled.{respelled-exactly}
 use Rattle.serial.specs.declared.Carry.{Carry}
 use Rattle.serial.specs.declared.Fed.{Fed}
 use Rattle.serial.specs.SerialNumbers.{UpToFault, WordsUpToFault, NewWords, GoesOn, FedRow}
@@ -51,7 +52,6 @@ use Rattle.serial.specs.Calls.{
 }
 use Rattle.open_elements.proofs.Faults.{fault-stays, fault-small}
 use Rattle.serial.proofs.WordsUpTo.{words-are}
-use Rattle.text_reading.proofs.Respelled.{respelled-exactly}
 use Rattle.serial.proofs.Holding.{Open, Holds, Fares, fares}
 use Rattle.serial.proofs.Repeating.{repeated}
 

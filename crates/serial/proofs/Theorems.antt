@@ -30,10 +30,10 @@ use Rattle.element_reading.specs.ElementNumbers.{reading}
 use Rattle.element_reading.proofs.Deciding.{cut-exactly}
 use Rattle.text_loops.specs.Fronts.{readIn, wordsBefore, respelledBefore}
 use Rattle.text_loops.proofs.Tallied.{tally-start, tally-end}
-use Rattle.text_reading.specs.ReadAnswers.{respelledIn, readReading}
+use Rattle.text_reading.specs.ReadAnswers.{readReading}
 use Rattle.text_reading.specs.ReadingNumbers.{limit}
-use Rattle.text_reading.proofs.Edges.{a-form}
 use Rattle.text_reading.proofs.ReadTexts.{accepted-exactly, measure-is}
+use Rattle.text_reading.proofs.Respelled.{respelled-is, respelled-exactly}
 use Rattle.serial.specs.declared.Carry.{Carry}
 use Rattle.serial.specs.declared.Fed.{Fed}
 use Rattle.serial.specs.SerialNumbers.{UpToFault, WordsUpToFault, NewWords, GoesOn, FedRow}
@@ -58,7 +58,6 @@ use Rattle.serial.specs.Calls.{
 }
 use Rattle.open_elements.proofs.Faults.{fault-small}
 use Rattle.serial.proofs.WordsUpTo.{words-are, words-some}
-use Rattle.text_reading.proofs.Respelled.{respelled-exactly}
 use Rattle.serial.proofs.Holding.{Open, Holds, words-sofar, Fares, fares}
 use Rattle.serial.proofs.OneRow.{one-new}
 use Rattle.serial.proofs.Repeating.{Says, says-repeats}
@@ -174,11 +173,6 @@ module _ {form : ℕ} {f : Form} (is : formOf form ≡ Is f) {calls : List Call}
   ends-only (Ends.last e) = OnlyLast.last
   ends-only (Ends.earlier e l) = OnlyLast.earlier e (ends-only l)
 
-  -- the fifth number that reading a text of the form carries
-  respelled-is : (text : List ℕ) → respelledIn form text ≡ respelledBefore f text
-  unfolding respelledIn
-  respelled-is text = sym (a-form _ _ _ _ _ is refl)
-
   -- "for a page within the size limit the final answer is the whole page's under 01, the count on acceptance being of all words handed
   -- out"; all five numbers are those of reading the page as one text; and the words handed out are those of the elements before the end or
   -- the first fault of the whole page
@@ -190,7 +184,7 @@ module _ {form : ℕ} {f : Form} (is : formOf form ≡ Is f) {calls : List Call}
       let words =
       subst (λ (l : List ℕ). WordsUpToFault f l (handedOut calls)) (taken-of-calls begun [] (fresh-holds form is) within)
       (handed-out (ends-only ends)) in (
-        whole ∙ ap₂ carrying (sym (measure-is form f is (page calls) within)) (sym (respelled-is (page calls))),
+        whole ∙ ap₂ carrying (sym (measure-is form f is (page calls) within)) (sym (respelled-is form f is (page calls))),
         words,
         λ zero. final-count f (page calls) (ap (λ (b : ReadAnswer). b .answer) whole) zero ∙ ap length (words-are f (page calls) words),
       )

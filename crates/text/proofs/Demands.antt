@@ -15,6 +15,7 @@ use lib.Dec.{leb}
 use borrow.Author.Tests.{eq-eqb, ne-eqb}
 use Rattle.run.specs.Choice.{pick}
 use Rattle.run.specs.Head.{Outcome, accepted, refusal}
+use Rattle.run.specs.Tally.{Apart}
 use Rattle.run.specs.Grammar.{Run, RunOf, done, more, Begins}
 use Rattle.run.specs.declared.Answer.{Answer}
 use Rattle.run.specs.declared.ReadAnswer.{ReadAnswer}
@@ -22,7 +23,6 @@ use Rattle.run.specs.Answers.{answer, bare, shortRoom, carrying, countOf, given
 use Rattle.run.proofs.Outcomes as outcomes
 use Rattle.run.proofs.Outcomes.{run-append, run-by, run-length}
 use Rattle.run.proofs.Answers.{given-append}
-use Rattle.run.proofs.Tallies.{tally-joined}
 use Rattle.run.specs.OneAnswer.{Once, OnceBoth}
 use Rattle.sorts.specs.declared.Form.{Form}
 use Rattle.sorts.specs.declared.FormFound.{FormFound}
@@ -37,7 +37,7 @@ use Rattle.element_reading.proofs.Reader.{reads}
 use Rattle.element_reading.proofs.ReadBack.{canonical-spells, read-held, says-canonical}
 use Rattle.element_reading.proofs.Places.{reading-number}
 use Rattle.element_spelling.proofs.Writer.{one-spelling, is-canonical, writer-reads, writer-refuses-exactly}
-use Rattle.text_loops.specs.Fronts.{readIn, respelledBefore}
+use Rattle.text_loops.specs.Fronts.{readIn}
 use Rattle.text_reading.specs.ReadAnswers.{within-limit, readAnswer, readWords, respelledIn, loneStep, oneReading, oneWords}
 use Rattle.text_reading.specs.Promises.{MeasurePromise, ReadPromise, ReadElementPromise, ReadOnePromise}
 use Rattle.text_reading.specs.ReadingNumbers.{limit, Answered, Formed, Tells, ReadingFault, ReadTable, LoneTable, OneTable}
@@ -46,6 +46,7 @@ use Rattle.text_reading.specs.LawWords.{Meets}
 use Rattle.text_reading.proofs.ByTable.{by-table, by-form, in-its-form, no-form-exactly, tells, kept-in-form}
 use Rattle.text_loops.proofs.Steps.{count-is-place}
 use Rattle.text_loops.proofs.FewWords.{words-fit}
+use Rattle.text_reading.proofs.Respelled as respelled
 use Rattle.text_reading.proofs.ReadTexts.{read-meets}
 use Rattle.text_reading.proofs.Lone.{lone-exactly, one-exactly}
 use Rattle.text_reading.proofs.OneAnswer as reading
@@ -898,12 +899,31 @@ accepted-fifth a k e z =
 
 module _ (source target : ℕ) (text out : List ℕ) {r : ReadAnswer} {after : List ℕ} (p : ConvertPromise source target text out r after) where
   -- An accepted conversion carries the number that reading its text with room enough carries: "elements not canonical in the source form".
-  pub convert-carries : r .answer .number ≡ 0 → (m : ReadAnswer) → MeasurePromise source text m → r .respelled ≡ m .respelled
+  pub convert-carries : r .answer .number ≡ 0 → (m : ReadAnswer) → MeasurePromise source text m
+      → (m .answer .number ≡ 0) × (r .respelled ≡ m .respelled)
   convert-carries z m q =
       let b = between-forms source target text out p (omega arith) in
       let c = accepted-by source target (b .0 .0) (b .1 .0) (b .0 .1) (b .1 .1) text out p z .converted in
       let read = accepts-exactly source (b .0 .0) (b .0 .1) text text .1 (c .meaning, c .within, c .means, words-fit (c .means .1)) in
-      accepted-fifth _ _ (p .0) z ∙ sym (accepted-fifth _ _ q (ap (λ (x : Answer). x .number) (four q) ∙ read))
+      let accepts = ap (λ (x : Answer). x .number) (four q) ∙ read in
+      (accepts, accepted-fifth _ _ (p .0) z ∙ sym (accepted-fifth _ _ q accepts))
+
+  -- It is exactly the pieces of the run that the text is which are not canonical,
+  pub convert-counts : r .answer .number ≡ 0 → (f : Form) → formOf source ≡ Is f → {ps : List (List ℕ)} {es : List Element}
+      → Run (Spells f) text ps es → (k : ℕ) → (r .respelled ≡ k) ↔ Apart (CanonicalElement f) ps es k
+  convert-counts z f q run k =
+      let c = accepted-fifth _ _ (p .0) z ∙ respelled.respelled-is source f q text in
+      (λ e. respelled.respelled-exactly f run k .0 (sym c ∙ e), λ a. c ∙ respelled.respelled-exactly f run k .1 a)
+
+  -- and at most the number of elements.
+  pub convert-few : r .answer .number ≡ 0 → r .respelled ≤ r .answer .element
+  convert-few z =
+      let b = between-forms source target text out p (omega arith) in
+      let f = b .0 .0 in
+      let c = accepted-by source target f (b .1 .0) (b .0 .1) (b .1 .1) text out p z .converted in
+      let n = ap (λ (x : Answer). x .element) (four (p .0) ∙ c .answers) in
+      let fifth = accepted-fifth _ _ (p .0) z ∙ respelled.respelled-is source f (b .0 .1) text in
+      omega (arith, n, fifth, respelled.respelled-few f text (c .meaning) (read-meets f text .runs (c .meaning) .1 (c .means)))
 
   -- It "is 0 on a refusal".
   pub refused-carries-0 : (r .answer .number ≡ 0 → ⊥) → r .respelled ≡ 0
@@ -914,13 +934,10 @@ module _ (source target : ℕ) (text out : List ℕ) {r : ReadAnswer} {after : L
 -- the number of a text behind one that is read
 respelled-joined : (form : ℕ) (f : Form) → formOf form ≡ Is f → (s t : List ℕ) (es : List Element) → RunOf (Spells f) s es
     → respelledIn form (s ++ t) ≡ respelledIn form s + respelledIn form t
-unfolding respelledIn
 respelled-joined form f q s t es r =
-    let in-form : (u : List ℕ) → respelledBefore f u ≡ inForm (formOf form) 0 (λ g. respelledBefore g u) =
-    λ u. a-form (formOf form) f 0 (respelledBefore f u) (λ g. respelledBefore g u) q refl in
-    sym (in-form (s ++ t))
-    ∙ tally-joined (isCanonical f) (reads f) s t es (read-meets f s .runs es .1 r)
-    ∙ ap₂ _+_ (in-form s) (in-form t)
+    respelled.respelled-is form f q (s ++ t)
+    ∙ respelled.respelled-joined f s t es r
+    ∙ sym (ap₂ _+_ (respelled.respelled-is form f q s) (respelled.respelled-is form f q t))
 
 -- "It adds up over joined texts": as `joined-converts`, of the fifth number.
 pub joined-carries : (source target : ℕ) (s t : List ℕ) → length (s ++ t) ≤ limit → (out₁ out₂ out : List ℕ) {r₁ r₂ r : ReadAnswer}

@@ -2,7 +2,8 @@
 -- and when it is 0.
 -- Assumes nothing.
 use Prim.Native.Nat.{ℕ, _+_, _≤_}
-use mathlib.Core.Path.{_≡_, refl, sym, ap, _∙_}
+use mathlib.Core.Path.{_≡_, refl, sym, ap, ap₂, _∙_}
+use native.Mathlib.Omega.{arith}
 use mathlib.Core.Logic.{_↔_}
 use mathlib.Core.List.{List, _++_}
 use lib.ListN.{length}
@@ -10,21 +11,26 @@ use borrow.Author.Tests.{eq-eqb, ne-eqb}
 use Rattle.run.specs.Head.{accepted}
 use Rattle.run.specs.Grammar.{Run, RunOf}
 use Rattle.run.specs.Tally.{Apart}
+use Rattle.run.specs.declared.Answer.{Answer}
 use Rattle.run.specs.declared.ReadAnswer.{ReadAnswer}
+use Rattle.run.specs.Answers.{answer, given, roomyAnswer}
 use Rattle.run.proofs.Outcomes.{run-by}
 use Rattle.run.proofs.Tallies.{tally-joined, tally-few, apart-exactly, tally-none}
 use Rattle.sorts.specs.declared.Form.{Form}
 use Rattle.sorts.specs.declared.FormFound.the-variants.{Is}
 use Rattle.sorts.specs.Forms.{formOf}
 use Rattle.element_words.specs.declared.Element.{Element}
+use Rattle.element_words.specs.Words.{wordsOf}
 use Rattle.element_spelling.specs.ElementOctets.{CanonicalElement, isCanonical}
 use Rattle.element_reading.specs.Grammar.{Spells}
 use Rattle.element_reading.proofs.Reader.{reads}
 use Rattle.element_reading.proofs.ReadBack.{canonical-spells, canonical-decides}
 use Rattle.text_loops.specs.Fronts.{readIn, respelledBefore}
 use Rattle.text_reading.specs.ReadAnswers.{readAnswer, respelledIn, readReading}
+use Rattle.text_reading.specs.ReadingNumbers.{limit}
+use Rattle.text_reading.specs.Promises.{MeasurePromise}
 use Rattle.text_reading.proofs.Edges.{a-form}
-use Rattle.text_reading.proofs.ReadTexts.{accepted-exactly}
+use Rattle.text_reading.proofs.ReadTexts.{accepted-exactly, measure-is}
 
 -- a form's number
 pub respelled-is : (form : ℕ) (f : Form) → formOf form ≡ Is f → (text : List ℕ) → respelledIn form text ≡ respelledBefore f text
@@ -64,9 +70,45 @@ module _ (form : ℕ) (text : List ℕ) (room : ℕ) {r : ReadAnswer} (is : r �
       let t = eq-eqb (readAnswer form text room .number) 0 n in
       ap (λ (x : ReadAnswer). x .respelled) is ∙ rw t (respelled-is form f q text)
 
-  -- and a refusal 0.
+  -- which is exactly the pieces of the run that the text is which are not canonical,
+  pub reading-counts : (f : Form) → formOf form ≡ Is f → r .answer .number ≡ 0 → {ps : List (List ℕ)} {es : List Element}
+      → Run (Spells f) text ps es → (k : ℕ) → (r .respelled ≡ k) ↔ Apart (CanonicalElement f) ps es k
+  reading-counts f q z run k =
+      let c = reading-carries f q z in
+      (λ e. respelled-exactly f run k .0 (sym c ∙ e), λ a. c ∙ respelled-exactly f run k .1 a)
+
+  -- and 0 exactly where it is the canonical run of its elements;
+  pub reading-none : (f : Form) → formOf form ≡ Is f → r .answer .number ≡ 0 → {es : List Element} → RunOf (Spells f) text es
+      → (r .respelled ≡ 0) ↔ RunOf (CanonicalElement f) text es
+  reading-none f q z run =
+      let c = reading-carries f q z in
+      (λ e. respelled-none f run .0 (sym c ∙ e), λ a. c ∙ respelled-none f run .1 a)
+
+  -- a refusal carries 0.
   pub refusal-carries : (r .answer .number ≡ 0 → ⊥) → r .respelled ≡ 0
   refusal-carries z =
       let n : readAnswer form text room .number ≡ 0 → ⊥ = λ e. z (ap (λ (x : ReadAnswer). x .answer .number) is ∙ e) in
       let t = ne-eqb (readAnswer form text room .number) 0 n in
       ap (λ (x : ReadAnswer). x .respelled) is ∙ rw t
+
+-- An accepted reading has at most as many as elements.
+pub reading-few : (form : ℕ) (f : Form) → formOf form ≡ Is f → (text : List ℕ) → length text ≤ limit → {r : ReadAnswer}
+    → MeasurePromise form text r → {es : List Element} → RunOf (Spells f) text es
+    → (r .answer .number ≡ 0) × (r .answer .element ≡ length es) × (r .respelled ≤ r .answer .element)
+reading-few form f q text h {r} is {es} run =
+    let x = accepted-exactly f text es .1 run in
+    let m = measure-is form f q text h ∙ ap (roomyAnswer wordsOf (length text)) x in
+    let four : r .answer ≡ answer 0 (length es) (length text) (length (given wordsOf es)) = ap (λ (a : ReadAnswer). a .answer) is ∙ m in
+    let z : r .answer .number ≡ 0 = ap (λ (a : Answer). a .number) four in
+    let n : r .answer .element ≡ length es = ap (λ (a : Answer). a .element) four in
+    (z, n, omega (arith, reading-carries form text (length text) is f q z, respelled-few f text es x, n))
+
+-- It adds up over joined texts.
+pub joined-readings : (form : ℕ) (f : Form) → formOf form ≡ Is f → (s t : List ℕ) → (i j k : ℕ) {r₁ r₂ r : ReadAnswer}
+    → r₁ ≡ readReading form s i → r₂ ≡ readReading form t j → r ≡ readReading form (s ++ t) k
+    → r₁ .answer .number ≡ 0 → r₂ .answer .number ≡ 0 → r .answer .number ≡ 0 → {es : List Element} → RunOf (Spells f) s es
+    → r .respelled ≡ r₁ .respelled + r₂ .respelled
+joined-readings form f q s t i j k is₁ is₂ is z₁ z₂ z {es} run =
+    reading-carries form (s ++ t) k is f q z
+    ∙ respelled-joined f s t es run
+    ∙ ap₂ _+_ (sym (reading-carries form s i is₁ f q z₁)) (sym (reading-carries form t j is₂ f q z₂))

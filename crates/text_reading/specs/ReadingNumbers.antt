@@ -1,6 +1,6 @@
--- To be believed: document 01's table of numbers and its order of refusals, for a whole text: which four numbers are given, and what the
--- lent buffer holds after. What is read and refused is in the words of the grammar (`Spells`, `Refuses`); nothing here speaks of a
--- reader.
+-- To be believed: document 01's table of numbers and its order of refusals. For a whole text: which four numbers are given, and what the
+-- lent buffer holds after; the fifth, of an accepted text, is `run` `Apart`'s (proofs/Respelled: reading-counts). For one element: all five,
+-- and its words. What is read and refused is in the words of the grammar (`Spells`, `Refuses`); nothing here speaks of a reader.
 -- Assumes nothing.
 use Prim.Native.Nat.{ℕ, _≤_, _<_}
 use mathlib.Core.Path.{_≡_}

@@ -33,8 +33,8 @@ pub struct Counts {
     pub octets: usize,
 }
 
-// Writes the octets of a packed spelling, where there is room for them; the place behind them. `text_writing` has the same function: it asks
-// for room, which no public function does.
+// Writes the octets of a packed spelling, where there is room for them; the place behind them. `text_writing` has the same function: it
+// asks for room, which no public function does.
 fn put_packed(p: u32, out: &mut [u8], at: usize) -> usize
     requires { ⌜ at + length (packedOctets p) ≤ length (now out) ⌝ }
     ensures { λ r. ⌜ Put (now (out .entry)) at (packedOctets p) (now (out .exit)) r ⌝ }

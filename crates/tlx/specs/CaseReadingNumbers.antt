@@ -70,7 +70,8 @@ beside page a = record { answer = a; respelled = 0; page = page }
 abbrev pub withoutFifth : CaseAnswer → CaseAnswer
 withoutFifth a = beside (a .page) (a .answer)
 
--- "13, 14, 11, 15, then pages from the first .., then 9"
+-- "13, 14, 11, 15, then pages from the first .., then 9": the four numbers and the page. The fifth number is not of this table, and stands
+-- in it as 0 (`beside`): an accepted case carries what `PagesApart` counts (proofs/Respelled: case-respelled-exactly).
 pub data CaseTable (case words : List ℕ) : CaseAnswer → List ℕ → Type 0 where
   -- "the page named beside the answer (0 in any other answer)"; "A refusal writes nothing to any buffer."
   refused : {g r n p d : ℕ} → RefusedCase case g r n p d → CaseTable case words (beside g (answer r n p (countOf r d))) words

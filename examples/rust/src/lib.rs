@@ -4,8 +4,8 @@
 //! that is not of the form is an [`Error`], which names the octet and its place. A page that comes in pieces is a [`Serial`]; what changed
 //! between two texts is a [`Compared`].
 //!
-//! Some elements have more than one spelling in a form, and each has one that is canonical, which [`write()`] gives. Every spelling is read;
-//! what is read or converted says how many were not canonical, and [`element_at`] says it of one.
+//! Some elements have more than one spelling in a form, and each has one that is canonical, which [`write()`] gives. Every spelling is
+//! read; what is read or converted says how many were not canonical, and [`element_at`] says it of one.
 //!
 //! ```no_run
 //! use oakentwirl::Form;
@@ -55,8 +55,8 @@ pub struct Reading {
 pub struct Conversion {
     /// The text in the target form, in its canonical spelling.
     pub text: Vec<u8>,
-    /// How many elements did not stand in the source form's canonical spelling. At 0, converting back, within the limit, gives the text that
-    /// there was; else so many spellings cannot be had back, and [`element_at`] finds them in the text as it came.
+    /// How many elements did not stand in the source form's canonical spelling. At 0, converting back, within the limit, gives the text
+    /// that there was; else so many spellings cannot be had back, and [`element_at`] finds them in the text as it came.
     pub respelled: usize,
 }
 
