@@ -1,19 +1,20 @@
 -- The laws of answers and of lent buffers, over any payload.
 -- Assumes nothing.
 use mathlib.Core.Path.{_≡_, refl, sym, _∙_, ap}
+use mathlib.Core.Logic.{_↔_}
 use mathlib.Core.List.{List, [], _∷_, _++_, append-assoc, append-nil}
 use mathlib.Core.Bool.{Bool, true, false}
 use Prim.Native.Nat.{ℕ, _+_, _-_, _≤_}
 use native.Mathlib.Omega.{arith}
-use lib.Dec.{leb}
+use lib.Dec.{eqb, leb}
 use lib.ListN.{length, drop, getD, length-append, length-drop}
 use lib.Seq.{getD-append-add, getD-drop}
-use borrow.Author.Tests.{leb-true, eq-eqb, ne-eqb}
+use borrow.Author.Tests.{leb-true, eq-eqb, ne-eqb, eqb-true, eqb-false}
 use Rattle.run.specs.Choice.{pick}
 use Rattle.run.specs.Head.{Outcome, accepted, refusal}
 use Rattle.run.specs.declared.Answer.{Answer}
 use Rattle.run.specs.declared.ReadAnswer.{ReadAnswer}
-use Rattle.run.specs.Answers.{answer, given, answerOf, writtenOf, over, carrying}
+use Rattle.run.specs.Answers.{answer, given, answerOf, writtenOf, over, carrying, Carries}
 
 -- what joined lists of elements give is what each gives, joined
 pub given-append : {A : Type 0} (gives : A → List ℕ) (es fs : List A) → given gives (es ++ fs) ≡ given gives es ++ given gives fs
@@ -89,3 +90,31 @@ carrying-none a k h = rw (ne-eqb (a .number) 0 h)
 
 pub carrying-it : (a : Answer) (k : ℕ) → a .number ≡ 0 → _≡_ {A = ReadAnswer} (record { answer = a; respelled = k }) (carrying a k)
 carrying-it a k h = rw (eq-eqb (a .number) 0 h)
+
+-- An accepted answer carries it,
+pub accepted-carries : {r : ReadAnswer} (a : Answer) (k : ℕ) → r ≡ carrying a k → r .answer .number ≡ 0 → r .respelled ≡ k
+accepted-carries a k e z =
+    ap (λ (x : ReadAnswer). x .respelled) e
+    ∙ ap (λ (t : Bool). pick t k 0) (eq-eqb (a .number) 0 (sym (ap (λ (x : ReadAnswer). x .answer .number) e) ∙ z))
+
+-- a refusal 0;
+pub refused-carries : {r : ReadAnswer} (a : Answer) (k : ℕ) → r ≡ carrying a k → (r .answer .number ≡ 0 → ⊥) → r .respelled ≡ 0
+refused-carries a k e n =
+    ap (λ (x : ReadAnswer). x .respelled) e
+    ∙ ap (λ (t : Bool). pick t k 0) (ne-eqb (a .number) 0 (λ z. n (ap (λ (x : ReadAnswer). x .answer .number) e ∙ z)))
+
+-- and where one number is counted so, an answer with it is exactly one that carries what is counted.
+module _ {Counted : ℕ → Type 0} (r : ReadAnswer) (n : ℕ) (counted : r .answer .number ≡ 0 → (k : ℕ) → (n ≡ k) ↔ Counted k) where
+  by-number : Carries Counted r → (t : Bool) → eqb (r .answer .number) 0 ≡ t → r .respelled ≡ pick t n 0
+  by-number c true e = let z = eqb-true (r .answer .number) 0 e in sym (counted z (r .respelled) .1 (c .on-acceptance z))
+  by-number c false e = c .on-refusal (eqb-false (r .answer .number) 0 e)
+
+  pub carries-exactly : (r ≡ carrying (r .answer) n) ↔ Carries Counted r
+  carries-exactly = (
+    λ e.
+        record {
+          on-acceptance = λ z. counted z (r .respelled) .0 (sym (accepted-carries (r .answer) n e z));
+          on-refusal = refused-carries (r .answer) n e;
+        },
+    λ c. ap (λ (k : ℕ). record { answer = r .answer; respelled = k }) (by-number c (eqb (r .answer .number) 0) refl),
+  )

@@ -2,6 +2,7 @@
 -- said: what is proved equal to 01's tables, and parts of the code.
 -- Assumes nothing.
 use Prim.Native.Nat.{ℕ, _≤_}
+use mathlib.Core.Path.{_≡_}
 use mathlib.Core.List.{List, [], _∷_, _++_}
 use lib.Dec.{eqb, leb}
 use lib.ListN.{length, drop}
@@ -28,6 +29,11 @@ shortRoom needed = answer 9 0 0 needed
 -- a refusal"
 abbrev pub carrying : Answer → ℕ → ReadAnswer
 carrying a k = record { answer = a; respelled = pick (eqb (a .number) 0) k 0 }
+
+-- the same of any number that is counted so: an accepted answer carries it, a refusal 0 (proofs/Answers: carries-exactly)
+pub record Carries (Counted : ℕ → Type 0) (r : ReadAnswer) : Type 0 where
+  pub on-acceptance : r .answer .number ≡ 0 → Counted (r .respelled)
+  pub on-refusal : (r .answer .number ≡ 0 → ⊥) → r .respelled ≡ 0
 
 -- "In 1 to 8 the count is an octet place too and moves up with it"; of any other refusal of an element (10) it is 0
 abbrev pub countOf : ℕ → ℕ → ℕ

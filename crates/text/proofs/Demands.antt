@@ -12,17 +12,16 @@ use native.Mathlib.Omega.{arith}
 use lib.ListN.{length, take, drop, length-append}
 use lib.Seq.{take-append-seam}
 use lib.Dec.{leb}
-use borrow.Author.Tests.{eq-eqb, ne-eqb}
 use Rattle.run.specs.Choice.{pick}
 use Rattle.run.specs.Head.{Outcome, accepted, refusal}
 use Rattle.run.specs.Tally.{Apart}
 use Rattle.run.specs.Grammar.{Run, RunOf, done, more, Begins}
 use Rattle.run.specs.declared.Answer.{Answer}
 use Rattle.run.specs.declared.ReadAnswer.{ReadAnswer}
-use Rattle.run.specs.Answers.{answer, bare, shortRoom, carrying, countOf, given, answerOf, writtenOf, over, same}
+use Rattle.run.specs.Answers.{answer, bare, shortRoom, carrying, Carries, countOf, given, answerOf, writtenOf, over, same}
 use Rattle.run.proofs.Outcomes as outcomes
 use Rattle.run.proofs.Outcomes.{run-append, run-by, run-length}
-use Rattle.run.proofs.Answers.{given-append}
+use Rattle.run.proofs.Answers.{given-append, accepted-carries, refused-carries, carries-exactly}
 use Rattle.run.specs.OneAnswer.{Once, OnceBoth}
 use Rattle.sorts.specs.declared.Form.{Form}
 use Rattle.sorts.specs.declared.FormFound.{FormFound}
@@ -41,6 +40,7 @@ use Rattle.text_loops.specs.Fronts.{readIn}
 use Rattle.text_reading.specs.ReadAnswers.{within-limit, readAnswer, readWords, respelledIn, loneStep, oneReading, oneWords}
 use Rattle.text_reading.specs.Promises.{MeasurePromise, ReadPromise, ReadElementPromise, ReadOnePromise}
 use Rattle.text_reading.specs.ReadingNumbers.{limit, Answered, Formed, Tells, ReadingFault, ReadTable, LoneTable, OneTable}
+use Rattle.text_reading.specs.ReadingNumbers.{NotCanonical}
 use Rattle.text_reading.proofs.Edges.{a-form}
 use Rattle.text_reading.specs.LawWords.{Meets}
 use Rattle.text_reading.proofs.ByTable.{by-table, by-form, in-its-form, no-form-exactly, tells, kept-in-form}
@@ -105,21 +105,64 @@ measure-exactly form text = read-exactly form text text
 four : {r x : ReadAnswer} → r ≡ x → r .answer ≡ x .answer
 four e = ap (λ (x : ReadAnswer). x .answer) e
 
--- where the four numbers and the buffer are a table's exactly, so are those of an answer that carries a fifth
-carries : {Table : Answer → List ℕ → Type 0} {b : Answer} {l : List ℕ}
-    → ((a : Answer) (after : List ℕ) → ((b ≡ a) × (l ≡ after)) ↔ Table a after) → (k : ℕ) (r : ReadAnswer) (after : List ℕ)
-    → ((r ≡ carrying b k) × (after ≡ l)) ↔ (Table (r .answer) after × (r ≡ carrying (r .answer) k))
-carries exactly k r after = (
-  λ p. (turned (exactly (r .answer) after) .0 (four (p .0), p .1), p .0 ∙ ap (λ (x : Answer). carrying x k) (sym (four (p .0)))),
-  λ t. let e = turned (exactly (r .answer) after) .1 (t .0) in (t .1 ∙ ap (λ (x : Answer). carrying x k) (e .0), e .1),
+-- where the four numbers and the buffer are a table's exactly, and in an accepted row one number is counted so, the same holds of an answer
+-- that carries that number
+carries : {Table : Answer → List ℕ → Type 0} {Counted : ℕ → Type 0} {b : Answer} {l : List ℕ}
+    → ((a : Answer) (after : List ℕ) → ((b ≡ a) × (l ≡ after)) ↔ Table a after) → (n : ℕ)
+    → ((a : Answer) (after : List ℕ) → Table a after → a .number ≡ 0 → (k : ℕ) → (n ≡ k) ↔ Counted k) → (r : ReadAnswer) (after : List ℕ)
+    → ((r ≡ carrying b n) × (after ≡ l)) ↔ (Table (r .answer) after × Carries Counted r)
+carries exactly n counted r after = (
+  λ p.
+      let row = turned (exactly (r .answer) after) .0 (four (p .0), p .1) in
+      (row, carries-exactly r n (counted (r .answer) after row) .0 (p .0 ∙ ap (λ (x : Answer). carrying x n) (sym (four (p .0))))),
+  λ t.
+      let e = turned (exactly (r .answer) after) .1 (t .0) in
+      (carries-exactly r n (counted (r .answer) after (t .0)) .1 (t .1) ∙ ap (λ (x : Answer). carrying x n) (e .0), e .1),
 )
 
+-- Reading refuses with 1 to 8 alone, writing with 10 alone, converting with these.
+reading-low : (f : Form) (text : List ℕ) (r n p d : ℕ) → ReadingFault f text r n p d → (0 < r) × (r < 9)
+reading-low f text r n p d h = let z = reading-number f (h .here) in (omega (arith, z .0), omega (arith, z .1))
+
+reading-numbered : (f : Form) (text : List ℕ) (r n p d : ℕ) → ReadingFault f text r n p d → (0 < r) × (r < 11) × (r ≡ 9 → ⊥)
+reading-numbered f text r n p d h = let z = reading-low f text r n p d h in (z .0, omega (arith, z .1), λ e. omega (arith, z .1))
+
+writing-numbered : (f : Form) (words : List ℕ) (r n p d : ℕ) → WritingFault f words r n p d → (0 < r) × (r < 11) × (r ≡ 9 → ⊥)
+writing-numbered f words r n p d h = let z = h .here .0 in (omega arith, omega arith, λ e. omega arith)
+
+converting-numbered : (f g : Form) (text : List ℕ) (r n p d : ℕ) → ConvertingFault f g text r n p d → (0 < r) × (r < 11) × (r ≡ 9 → ⊥)
+converting-numbered f g text r n p d h = go h
+  where
+    go : {i j k l : ℕ} → ConvertingFault f g text i j k l → (0 < i) × (i < 11) × (i ≡ 9 → ⊥)
+    go {i} {j} {k} {l} (ConvertingFault.reading h) = reading-numbered f text i j k l h
+    go (ConvertingFault.not-held run k) = (omega arith, omega arith, λ e. omega arith)
+
+-- an accepted row's text is of a form, and a run of elements, so one number of it is counted
+read-row : (form : ℕ) (text words : List ℕ) (a : Answer) (after : List ℕ) → ReadTable form text words a after → a .number ≡ 0 → (k : ℕ)
+    → (respelledIn form text ≡ k) ↔ NotCanonical form text k
+read-row form text words a after row z k = go row z
+  where
+    go : {b : Answer} {l : List ℕ} → ReadTable form text words b l → b .number ≡ 0 → (respelledIn form text ≡ k) ↔ NotCanonical form text k
+    go (Formed.no-form n) z = absurd (omega arith)
+    go (Formed.of-form {f} q inside) z = respelled.counts-exactly form f q text (tells (reading-numbered f text) inside .is-0 z .2) k
+
+convert-row : (source target : ℕ) (text out : List ℕ) (a : Answer) (after : List ℕ) → ConvertTable source target text out a after
+    → a .number ≡ 0 → (k : ℕ) → (respelledIn source text ≡ k) ↔ NotCanonical source text k
+convert-row source target text out a after row z k = go row z
+  where
+    go : {b : Answer} {l : List ℕ} → ConvertTable source target text out b l → b .number ≡ 0
+        → (respelledIn source text ≡ k) ↔ NotCanonical source text k
+    go (Formed.no-form n) z = absurd (omega arith)
+    go (Formed.of-form q (Formed.no-form n)) z = absurd (omega arith)
+    go (Formed.of-form {f} q (Formed.of-form {f = g} p inside)) z =
+        let run = tells (converting-numbered f g text) inside .is-0 z .2 in
+        respelled.counts-exactly source f q text (run .0, respelt-means f g (run .1) .1) k
+
 -- So the promises, by the names that the functions' `ensures` cite, are that table. Document 02: an accepted reading or conversion "carries
--- a fifth number" beside its row's four, which "is 0 on a refusal".
+-- a fifth number: elements not canonical in the source form", which "is 0 on a refusal".
 pub read-promised : (form : ℕ) (text words : List ℕ) (r : ReadAnswer) (after : List ℕ)
-    → ReadPromise form text words r after
-    ↔ (ReadTable form text words (r .answer) after × (r ≡ carrying (r .answer) (respelledIn form text)))
-read-promised form text words = carries (read-exactly form text words) (respelledIn form text)
+    → ReadPromise form text words r after ↔ (ReadTable form text words (r .answer) after × Carries (NotCanonical form text) r)
+read-promised form text words = carries (read-exactly form text words) (respelledIn form text) (read-row form text words)
 
 pub write-promised : (form : ℕ) (words text : List ℕ) (r : Answer) (after : List ℕ)
     → WritePromise form words text r after ↔ WriteTable form words text r after
@@ -127,14 +170,15 @@ write-promised form words text r after = turned (write-exactly form words text r
 
 pub convert-promised : (source target : ℕ) (text out : List ℕ) (r : ReadAnswer) (after : List ℕ)
     → ConvertPromise source target text out r after
-    ↔ (ConvertTable source target text out (r .answer) after × (r ≡ carrying (r .answer) (respelledIn source text)))
-convert-promised source target text out = carries (convert-exactly source target text out) (respelledIn source text)
+    ↔ (ConvertTable source target text out (r .answer) after × Carries (NotCanonical source text) r)
+convert-promised source target text out =
+    carries (convert-exactly source target text out) (respelledIn source text) (convert-row source target text out)
 
 pub measure-promised : (form : ℕ) (text : List ℕ) (r : ReadAnswer)
     → MeasurePromise form text r
-    ↔ (((after : List ℕ) × ReadTable form text text (r .answer) after) × (r ≡ carrying (r .answer) (respelledIn form text)))
+    ↔ (((after : List ℕ) × ReadTable form text text (r .answer) after) × Carries (NotCanonical form text) r)
 measure-promised form text r =
-    let by-table = carries (measure-exactly form text) (respelledIn form text) r in (
+    let by-table = carries (measure-exactly form text) (respelledIn form text) (read-row form text text) r in (
       λ p. let t = by-table (readWords form text text) .0 (p, refl) in ((readWords form text text, t .0), t .1),
       λ t. by-table (t .0 .0) .1 (t .0 .1, t .1) .0,
     )
@@ -153,28 +197,12 @@ pub read-one-promised : (form : ℕ) (text : List ℕ) (at : ℕ) (words : List 
     → ReadOnePromise form text at words r after ↔ OneTable form text at words r after
 read-one-promised form text at words r after = turned (read-one-exactly form text at words r after)
 
--- The number tells the row. Reading refuses with 1 to 8 alone, writing with 10 alone, converting with these.
-reading-low : (f : Form) (text : List ℕ) (r n p d : ℕ) → ReadingFault f text r n p d → (0 < r) × (r < 9)
-reading-low f text r n p d h = let z = reading-number f (h .here) in (omega (arith, z .0), omega (arith, z .1))
-
-reading-numbered : (f : Form) (text : List ℕ) (r n p d : ℕ) → ReadingFault f text r n p d → (0 < r) × (r < 11) × (r ≡ 9 → ⊥)
-reading-numbered f text r n p d h = let z = reading-low f text r n p d h in (z .0, omega (arith, z .1), λ e. omega (arith, z .1))
-
-writing-numbered : (f : Form) (words : List ℕ) (r n p d : ℕ) → WritingFault f words r n p d → (0 < r) × (r < 11) × (r ≡ 9 → ⊥)
-writing-numbered f words r n p d h = let z = h .here .0 in (omega arith, omega arith, λ e. omega arith)
-
-converting-numbered : (f g : Form) (text : List ℕ) (r n p d : ℕ) → ConvertingFault f g text r n p d → (0 < r) × (r < 11) × (r ≡ 9 → ⊥)
-converting-numbered f g text r n p d h = go h
-  where
-    go : {i j k l : ℕ} → ConvertingFault f g text i j k l → (0 < i) × (i < 11) × (i ≡ 9 → ⊥)
-    go {i} {j} {k} {l} (ConvertingFault.reading h) = reading-numbered f text i j k l h
-    go (ConvertingFault.not-held run k) = (omega arith, omega arith, λ e. omega arith)
-
 -- a conversion's refusal with 1 to 8 is the reading's
 by-reading : (f g : Form) {text : List ℕ} {r n p d : ℕ} → ConvertingFault f g text r n p d → r ≤ 8 → ReadingFault f text r n p d
 by-reading f g (ConvertingFault.reading h) l = h
 by-reading f g (ConvertingFault.not-held run k) l = absurd (omega arith)
 
+-- The number tells the row.
 pub read-tells : (form : ℕ) (f : Form) → formOf form ≡ Is f → (text words : List ℕ)
     → Tells wordsOf (RunOf (Spells f) text) (ReadingFault f text) text words (readAnswer form text (length words))
     (readWords form text words)
@@ -891,12 +919,6 @@ module _ (source second third : ℕ) (text out last : List ℕ) where
 
 -- ======== Document 02, No. 5: what a conversion carries
 
--- the number that an accepted answer carries
-accepted-fifth : {r : ReadAnswer} (a : Answer) (k : ℕ) → r ≡ carrying a k → r .answer .number ≡ 0 → r .respelled ≡ k
-accepted-fifth a k e z =
-    ap (λ (x : ReadAnswer). x .respelled) e
-    ∙ ap (λ (t : Bool). pick t k 0) (eq-eqb (a .number) 0 (sym (ap (λ (x : Answer). x .number) (four e)) ∙ z))
-
 module _ (source target : ℕ) (text out : List ℕ) {r : ReadAnswer} {after : List ℕ} (p : ConvertPromise source target text out r after) where
   -- An accepted conversion carries the number that reading its text with room enough carries: "elements not canonical in the source form".
   pub convert-carries : r .answer .number ≡ 0 → (m : ReadAnswer) → MeasurePromise source text m
@@ -906,13 +928,13 @@ module _ (source target : ℕ) (text out : List ℕ) {r : ReadAnswer} {after : L
       let c = accepted-by source target (b .0 .0) (b .1 .0) (b .0 .1) (b .1 .1) text out p z .converted in
       let read = accepts-exactly source (b .0 .0) (b .0 .1) text text .1 (c .meaning, c .within, c .means, words-fit (c .means .1)) in
       let accepts = ap (λ (x : Answer). x .number) (four q) ∙ read in
-      (accepts, accepted-fifth _ _ (p .0) z ∙ sym (accepted-fifth _ _ q accepts))
+      (accepts, accepted-carries _ _ (p .0) z ∙ sym (accepted-carries _ _ q accepts))
 
   -- It is exactly the pieces of the run that the text is which are not canonical,
   pub convert-counts : r .answer .number ≡ 0 → (f : Form) → formOf source ≡ Is f → {ps : List (List ℕ)} {es : List Element}
       → Run (Spells f) text ps es → (k : ℕ) → (r .respelled ≡ k) ↔ Apart (CanonicalElement f) ps es k
   convert-counts z f q run k =
-      let c = accepted-fifth _ _ (p .0) z ∙ respelled.respelled-is source f q text in
+      let c = accepted-carries _ _ (p .0) z ∙ respelled.respelled-is source f q text in
       (λ e. respelled.respelled-exactly f run k .0 (sym c ∙ e), λ a. c ∙ respelled.respelled-exactly f run k .1 a)
 
   -- and at most the number of elements.
@@ -922,14 +944,12 @@ module _ (source target : ℕ) (text out : List ℕ) {r : ReadAnswer} {after : L
       let f = b .0 .0 in
       let c = accepted-by source target f (b .1 .0) (b .0 .1) (b .1 .1) text out p z .converted in
       let n = ap (λ (x : Answer). x .element) (four (p .0) ∙ c .answers) in
-      let fifth = accepted-fifth _ _ (p .0) z ∙ respelled.respelled-is source f (b .0 .1) text in
+      let fifth = accepted-carries _ _ (p .0) z ∙ respelled.respelled-is source f (b .0 .1) text in
       omega (arith, n, fifth, respelled.respelled-few f text (c .meaning) (read-meets f text .runs (c .meaning) .1 (c .means)))
 
   -- It "is 0 on a refusal".
   pub refused-carries-0 : (r .answer .number ≡ 0 → ⊥) → r .respelled ≡ 0
-  refused-carries-0 n =
-      ap (λ (x : ReadAnswer). x .respelled) (p .0)
-      ∙ ap (λ (t : Bool). pick t (respelledIn source text) 0) (ne-eqb _ 0 (λ z. n (ap (λ (x : Answer). x .number) (four (p .0)) ∙ z)))
+  refused-carries-0 = refused-carries _ _ (p .0)
 
 -- the number of a text behind one that is read
 respelled-joined : (form : ℕ) (f : Form) → formOf form ≡ Is f → (s t : List ℕ) (es : List Element) → RunOf (Spells f) s es
@@ -949,9 +969,9 @@ joined-carries source target s t within out₁ out₂ out p₁ z₁ p₂ z₂ ro
     let b = between-forms source target s out₁ p₁ (omega arith) in
     let f = b .0 .0 in
     let c = accepted-by source target f (b .1 .0) (b .0 .1) (b .1 .1) s out₁ p₁ z₁ .converted in
-    accepted-fifth _ _ (p .0) z
+    accepted-carries _ _ (p .0) z
     ∙ respelled-joined source f (b .0 .1) s t (c .meaning) (c .means)
-    ∙ sym (ap₂ _+_ (accepted-fifth _ _ (p₁ .0) z₁) (accepted-fifth _ _ (p₂ .0) z₂))
+    ∙ sym (ap₂ _+_ (accepted-carries _ _ (p₁ .0) z₁) (accepted-carries _ _ (p₂ .0) z₂))
 
 -- ======== "Sixteen readings to prove": all of them and only these, as one table under one claim, by computation
 

@@ -7,7 +7,6 @@ use native.Mathlib.Omega.{arith}
 use mathlib.Core.Logic.{_↔_}
 use mathlib.Core.List.{List, _++_}
 use lib.ListN.{length}
-use borrow.Author.Tests.{eq-eqb, ne-eqb}
 use Rattle.run.specs.Head.{accepted}
 use Rattle.run.specs.Grammar.{Run, RunOf}
 use Rattle.run.specs.Tally.{Apart}
@@ -15,6 +14,7 @@ use Rattle.run.specs.declared.Answer.{Answer}
 use Rattle.run.specs.declared.ReadAnswer.{ReadAnswer}
 use Rattle.run.specs.Answers.{answer, given, roomyAnswer}
 use Rattle.run.proofs.Outcomes.{run-by}
+use Rattle.run.proofs.Answers.{accepted-carries, refused-carries}
 use Rattle.run.proofs.Tallies.{tally-joined, tally-few, apart-exactly, tally-none}
 use Rattle.sorts.specs.declared.Form.{Form}
 use Rattle.sorts.specs.declared.FormFound.the-variants.{Is}
@@ -26,8 +26,8 @@ use Rattle.element_reading.specs.Grammar.{Spells}
 use Rattle.element_reading.proofs.Reader.{reads}
 use Rattle.element_reading.proofs.ReadBack.{canonical-spells, canonical-decides}
 use Rattle.text_loops.specs.Fronts.{readIn, respelledBefore}
-use Rattle.text_reading.specs.ReadAnswers.{readAnswer, respelledIn, readReading}
-use Rattle.text_reading.specs.ReadingNumbers.{limit}
+use Rattle.text_reading.specs.ReadAnswers.{respelledIn, readReading}
+use Rattle.text_reading.specs.ReadingNumbers.{limit, NotCanonical}
 use Rattle.text_reading.specs.Promises.{MeasurePromise}
 use Rattle.text_reading.proofs.Edges.{a-form}
 use Rattle.text_reading.proofs.ReadTexts.{accepted-exactly, measure-is}
@@ -60,15 +60,28 @@ module _ (f : Form) where
   pub respelled-canonical : {text : List ℕ} {es : List Element} → RunOf (CanonicalElement f) text es → respelledBefore f text ≡ 0
   respelled-canonical c = respelled-none (c .0, run-by (λ p e k. canonical-spells f k) (c .1)) .1 c
 
+-- a text that is read has it, and no other number is counted so
+pub counts-exactly : (form : ℕ) (f : Form) → formOf form ≡ Is f → (text : List ℕ) {es : List Element} → RunOf (Spells f) text es → (k : ℕ)
+    → (respelledIn form text ≡ k) ↔ NotCanonical form text k
+counts-exactly form f q text {es} r k = (
+  λ e.
+      record {
+        the-form = f;
+        is-form = q;
+        pieces = r .0;
+        elements = es;
+        run = r .1;
+        counted = respelled-exactly f (r .1) k .0 (sym (respelled-is form f q text) ∙ e);
+      },
+  λ c. respelled-is form (c .the-form) (c .is-form) text ∙ respelled-exactly (c .the-form) (c .run) k .1 (c .counted),
+)
+
 -- ---- from the promises of `read` and `measure`
 
 module _ (form : ℕ) (text : List ℕ) (room : ℕ) {r : ReadAnswer} (is : r ≡ readReading form text room) where
   -- An accepted reading carries it,
   pub reading-carries : (f : Form) → formOf form ≡ Is f → r .answer .number ≡ 0 → r .respelled ≡ respelledBefore f text
-  reading-carries f q z =
-      let n : readAnswer form text room .number ≡ 0 = sym (ap (λ (x : ReadAnswer). x .answer .number) is) ∙ z in
-      let t = eq-eqb (readAnswer form text room .number) 0 n in
-      ap (λ (x : ReadAnswer). x .respelled) is ∙ rw t (respelled-is form f q text)
+  reading-carries f q z = accepted-carries _ _ is z ∙ respelled-is form f q text
 
   -- which is exactly the pieces of the run that the text is which are not canonical,
   pub reading-counts : (f : Form) → formOf form ≡ Is f → r .answer .number ≡ 0 → {ps : List (List ℕ)} {es : List Element}
@@ -86,10 +99,7 @@ module _ (form : ℕ) (text : List ℕ) (room : ℕ) {r : ReadAnswer} (is : r �
 
   -- a refusal carries 0.
   pub refusal-carries : (r .answer .number ≡ 0 → ⊥) → r .respelled ≡ 0
-  refusal-carries z =
-      let n : readAnswer form text room .number ≡ 0 → ⊥ = λ e. z (ap (λ (x : ReadAnswer). x .answer .number) is ∙ e) in
-      let t = ne-eqb (readAnswer form text room .number) 0 n in
-      ap (λ (x : ReadAnswer). x .respelled) is ∙ rw t
+  refusal-carries = refused-carries _ _ is
 
 -- An accepted reading has at most as many as elements.
 pub reading-few : (form : ℕ) (f : Form) → formOf form ≡ Is f → (text : List ℕ) → length text ≤ limit → {r : ReadAnswer}

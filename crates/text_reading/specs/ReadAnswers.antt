@@ -1,6 +1,6 @@
 -- Proved equal to document 01's table of numbers and its order of refusals (ReadingNumbers, by proofs/Demands of `text`: read-exactly,
--- read-element-exactly, read-one-exactly) and, of the fifth number, to what No. 5 of document 02 counts (proofs/Respelled:
--- respelled-exactly): the answers of the public functions, and what a lent buffer holds after.
+-- read-element-exactly, read-one-exactly) and, of the fifth number, to what No. 5 of document 02 counts (`NotCanonical`, by
+-- proofs/Respelled: counts-exactly): the answers of the public functions, and what a lent buffer holds after.
 -- Assumes nothing.
 use Prim.Native.Nat.{ℕ}
 use mathlib.Core.List.{List}

@@ -1,19 +1,22 @@
 -- To be believed: document 01's table of numbers and its order of refusals. For a whole text: which four numbers are given, and what the
--- lent buffer holds after; the fifth, of an accepted text, is `run` `Apart`'s (proofs/Respelled: reading-counts). For one element: all five,
--- and its words. What is read and refused is in the words of the grammar (`Spells`, `Refuses`); nothing here speaks of a reader.
+-- lent buffer holds after; and the fifth, of document 02, of an accepted text (`NotCanonical`). For one element: all five, and its words.
+-- What is read and refused is in the words of the grammar (`Spells`, `Refuses`); nothing here speaks of a reader.
 -- Assumes nothing.
 use Prim.Native.Nat.{ℕ, _≤_, _<_}
 use mathlib.Core.Path.{_≡_}
 use mathlib.Core.List.{List, []}
 use lib.ListN.{length}
-use Rattle.run.specs.Grammar.{RunOf, Stopped}
+use Rattle.run.specs.Grammar.{Run, RunOf, Stopped}
+use Rattle.run.specs.Tally.{Apart}
 use Rattle.run.specs.declared.Answer.{Answer}
 use Rattle.run.specs.declared.ReadAnswer.{ReadAnswer}
 use Rattle.run.specs.Answers.{answer, bare, shortRoom, countOf, given, over}
 use Rattle.sorts.specs.declared.Form.{Form}
 use Rattle.sorts.specs.declared.FormFound.the-variants.{Is}
 use Rattle.sorts.specs.Forms.{formOf, NoForm}
+use Rattle.element_words.specs.declared.Element.{Element}
 use Rattle.element_words.specs.Words.{wordsOf}
+use Rattle.element_spelling.specs.ElementOctets.{CanonicalElement}
 use Rattle.element_reading.specs.Grammar.{Spells, Refuses}
 use Rattle.element_reading.specs.ElementNumbers.{reading, ElementRow}
 
@@ -68,6 +71,16 @@ pub data Formed (form : ℕ) (buffer : List ℕ) (Inside : Form → Answer → L
 -- "Order: 11 (source, then target), 12, reading .., 10, 9."
 abbrev pub ReadTable : ℕ → List ℕ → List ℕ → Answer → List ℕ → Type 0
 ReadTable form text words = Formed form words (λ f. Answered wordsOf (RunOf (Spells f) text) (ReadingFault f text) text words)
+
+-- ---- document 02, No. 5: "elements not canonical in the source form": so many pieces of the one run that a text is in its form
+
+pub record NotCanonical (form : ℕ) (text : List ℕ) (k : ℕ) : Type 0 where
+  pub the-form : Form
+  pub is-form : formOf form ≡ Is the-form
+  pub pieces : List (List ℕ)
+  pub elements : List Element
+  pub run : Run (Spells the-form) text pieces elements
+  pub counted : Apart (CanonicalElement the-form) pieces elements k
 
 -- ---- one element at a place: 11, 12, then none left, the element or its refusal: the five numbers, and the element's words
 

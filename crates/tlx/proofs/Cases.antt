@@ -1,4 +1,5 @@
--- The theorems of record of reading a case: what `read_case` and `page_elements` are worth, in document 01's words (`CaseTable`).
+-- The theorems of record of reading a case: what `read_case` and `page_elements` are worth, in document 01's words and, of the fifth number,
+-- document 02's (`CaseTable`).
 -- Assumes nothing.
 use Prim.Native.Nat.{ℕ, suc, _+_, _≤_, _<_}
 use mathlib.Core.Path.{_≡_, refl, sym, ap, ap₂, subst, subst₂, _∙_}
@@ -13,7 +14,7 @@ use borrow.Author.Tests.{le-leb, lt-leb, lt-ltb, le-ltb, leb-true, leb-false}
 use Rattle.run.specs.Choice.{pick}
 use Rattle.run.specs.Head.{Outcome, accepted, refusal}
 use Rattle.run.specs.Grammar.{RunOf}
-use Rattle.run.specs.Answers.{answer, bare, shortRoom, carrying, given, writtenOf, over, same}
+use Rattle.run.specs.Answers.{answer, bare, shortRoom, carrying, countOf, given, writtenOf, over, same}
 use Rattle.run.proofs.Answers as answers
 use Rattle.sorts.specs.declared.Form.{Form}
 use Rattle.sorts.specs.declared.FormFound.the-variants.{Is}
@@ -37,12 +38,13 @@ use Rattle.case_table.proofs.Laid.{laid-exactly, case-header, case-pages}
 use Rattle.tlx.specs.declared.CaseAnswer.{CaseAnswer}
 use Rattle.tlx.specs.declared.Page.the-variants.{Is as IsPage, NoPage}
 use Rattle.tlx.specs.CaseReadingNumbers.{AllSpelt, none, more, Faulty, AcceptedCase, RefusedCase, of-case, of-page, CaseTable}
-use Rattle.tlx.specs.CaseReadingNumbers.{Size, CaseTells, beside, withoutFifth}
+use Rattle.tlx.specs.CaseReadingNumbers.{Size, CaseTells, beside}
 use Rattle.tlx.specs.CaseReading.{CaseOutcome, all, fault, joinPages, afterPage, readPage, readPages, readCase}
-use Rattle.tlx.specs.CaseReading.{readCaseAnswer, caseRespelled, carryingCase, readCaseWords, aloneReading, pageAnswer}
+use Rattle.tlx.specs.CaseReading.{readCaseAnswer, caseRespelled, carryingCase, readCaseReading, readCaseWords, aloneReading, pageAnswer}
 use Rattle.tlx.specs.CaseReading.{outcomeOf, caseAnswer, pageWords}
 use Rattle.tlx.specs.Promises.{ReadCasePromise}
-use Rattle.tlx.proofs.Pages.{join-none, join-join, page-read}
+use Rattle.tlx.proofs.Pages.{join-none, join-join, page-read, withoutFifth, carried-none}
+use Rattle.tlx.proofs.PageNumbers.{case-has, has-case}
 use Rattle.tlx.proofs.Rooms.{case-turned, turned-readings}
 use Rattle.sorts.proofs.FormNumbers.{is-found}
 
@@ -206,46 +208,70 @@ module _ (case : List ℕ) (octets : Octets case) where
   pub case-refused : (g r n p d : ℕ) → (readCase case ≡ fault g r n p d) ↔ RefusedCase case g r n p d
   case-refused g r n p d = (λ q. refused-by g r n p d q (headerOf case) refl, refused-read)
 
--- ---- the same, of what `read_case` answers and of the words it leaves
-
-module _ {case words : List ℕ} where
-  -- each row of the table is answered so
-  pub of-row : {a : CaseAnswer} {after : List ℕ} → CaseTable case words a after
-      → (readCaseAnswer case (length words) ≡ a) × (readCaseWords case words ≡ after)
-  unfolding readCaseAnswer readCaseWords
-  of-row (CaseTable.refused i) = let q = refused-read i in (simp q, simp q)
-  of-row (CaseTable.short-room {es} a h) =
-      let q = accepted-read a in let t = lt-leb (length (given wordsOf es)) (length words) h in (simp (q, t), simp (q, t))
-  of-row (CaseTable.accepted {es} a h) =
-      let q = accepted-read a in let t = le-leb (length (given wordsOf es)) (length words) h in (simp (q, t), simp (q, t))
-
-module _ (case : List ℕ) (octets : Octets case) (words : List ℕ) where
-  by-room : (es : List Element) → AcceptedCase case es → (t : Bool) → leb (Size es) (length words) ≡ t
-      → CaseTable case words (beside 0 (pick t (answer 0 (length es) (length case) (Size es)) (shortRoom (Size es))))
-      (pick t (over words (given wordsOf es)) words)
-  by-room es a true e = CaseTable.accepted a (leb-true _ _ e)
-  by-room es a false e = CaseTable.short-room a (leb-false _ _ e)
-
-  by-outcome : (x : CaseOutcome) → readCase case ≡ x
-      → CaseTable case words (caseAnswer (length case) (length words) x) (writtenOf wordsOf words (outcomeOf x))
-  by-outcome (all es) q = by-room es (case-accepted case octets es .0 q) (leb (Size es) (length words)) refl
-  by-outcome (fault g r n p d) q = CaseTable.refused (case-refused case octets g r n p d .0 q)
-
-  -- Each of 11, 13, 14, 15, 9 and a page's refusal is given exactly when 01's table and order say so, with its page; and so is an
-  -- acceptance.
-  pub case-exactly : (a : CaseAnswer) (after : List ℕ)
-      → ((readCaseAnswer case (length words) ≡ a) × (readCaseWords case words ≡ after)) ↔ CaseTable case words a after
-  unfolding readCaseAnswer readCaseWords
-  case-exactly a after = (λ e. subst₂ (CaseTable case words) (e .0) (e .1) (by-outcome (readCase case) refl), of-row)
-
--- ---- the number tells the row
-
+-- a refusal's number is none of 0, 9, 10 and 12
 refused-number : {case : List ℕ} {g r n p d : ℕ} → RefusedCase case g r n p d → (0 < r) × (r ≡ 9 → ⊥) × (r ≡ 10 → ⊥) × (r ≡ 12 → ⊥)
 refused-number (of-case t) =
     let z = turned-number t in (omega (arith, z .0), λ e. omega (arith, z .0), λ e. omega (arith, z .0), z .1)
 refused-number (of-page {f = f} q c i) =
     let z = reading-number f (i .refused .here) in
     (omega (arith, z .0), λ e. omega (arith, z .1), λ e. omega (arith, z .1), λ e. omega (arith, z .1))
+
+-- ---- the same, of what `read_case` answers and of the words it leaves
+
+-- a refusal carries 0
+none-of : {case : List ℕ} {g r n p d : ℕ} → RefusedCase case g r n p d → (k : ℕ)
+    → _≡_ {A = CaseAnswer} (beside g (answer r n p (countOf r d))) (carryingCase (beside g (answer r n p (countOf r d))) k)
+none-of {g = g} {r} {n} {p} {d} i k =
+    carried-none (beside g (answer r n p (countOf r d))) _ k refl (λ z. omega (arith, z, refused-number i .0))
+
+module _ {case words : List ℕ} where
+  -- each row of the table is answered so: the four numbers, the page and the words,
+  four-of-row : {a : CaseAnswer} {after : List ℕ} → CaseTable case words a after
+      → (readCaseAnswer case (length words) ≡ withoutFifth a) × (readCaseWords case words ≡ after)
+  unfolding readCaseAnswer readCaseWords
+  four-of-row (CaseTable.refused i) = let q = refused-read i in (simp q, simp q)
+  four-of-row (CaseTable.short-room {es} a h) =
+      let q = accepted-read a in let t = lt-leb (length (given wordsOf es)) (length words) h in (simp (q, t), simp (q, t))
+  four-of-row (CaseTable.accepted {es} a k h) =
+      let q = accepted-read a in let t = le-leb (length (given wordsOf es)) (length words) h in (simp (q, t), simp (q, t))
+
+  -- and the fifth
+  fifth-of-row : {a : CaseAnswer} {after : List ℕ} → CaseTable case words a after → a ≡ carryingCase (withoutFifth a) (caseRespelled case)
+  fifth-of-row (CaseTable.refused i) = none-of i (caseRespelled case)
+  fifth-of-row (CaseTable.short-room a h) = refl
+  fifth-of-row (CaseTable.accepted {es} {k} a counted h) =
+      ap (λ (k : ℕ). record { answer = answer 0 (length es) (length case) (Size es); respelled = k; page = 0 }) (sym (has-case a counted))
+
+  pub of-row : {a : CaseAnswer} {after : List ℕ} → CaseTable case words a after
+      → (readCaseReading case (length words) ≡ a) × (readCaseWords case words ≡ after)
+  of-row row =
+      let e = four-of-row row in
+      (ap (λ (x : CaseAnswer). carryingCase x (caseRespelled case)) (e .0) ∙ sym (fifth-of-row row), e .1)
+
+module _ (case : List ℕ) (octets : Octets case) (words : List ℕ) where
+  by-room : (es : List Element) → AcceptedCase case es → (t : Bool) → leb (Size es) (length words) ≡ t
+      → CaseTable case words
+      (carryingCase (beside 0 (pick t (answer 0 (length es) (length case) (Size es)) (shortRoom (Size es)))) (caseRespelled case))
+      (pick t (over words (given wordsOf es)) words)
+  by-room es a true e = CaseTable.accepted a (case-has a) (leb-true _ _ e)
+  by-room es a false e = CaseTable.short-room a (leb-false _ _ e)
+
+  by-outcome : (x : CaseOutcome) → readCase case ≡ x
+      → CaseTable case words (carryingCase (caseAnswer (length case) (length words) x) (caseRespelled case))
+      (writtenOf wordsOf words (outcomeOf x))
+  by-outcome (all es) q = by-room es (case-accepted case octets es .0 q) (leb (Size es) (length words)) refl
+  by-outcome (fault g r n p d) q =
+      let i = case-refused case octets g r n p d .0 q in
+      subst (λ (a : CaseAnswer). CaseTable case words a words) (none-of i (caseRespelled case)) (CaseTable.refused i)
+
+  -- Each of 11, 13, 14, 15, 9 and a page's refusal is given exactly when 01's table and order say so, with its page; and so is an
+  -- acceptance, with the number that document 02 counts.
+  pub case-exactly : (a : CaseAnswer) (after : List ℕ)
+      → ((readCaseReading case (length words) ≡ a) × (readCaseWords case words ≡ after)) ↔ CaseTable case words a after
+  unfolding readCaseAnswer readCaseWords
+  case-exactly a after = (λ e. subst₂ (CaseTable case words) (e .0) (e .1) (by-outcome (readCase case) refl), of-row)
+
+-- ---- the number tells the row
 
 row-tells : {case words : List ℕ} {a : CaseAnswer} {after : List ℕ} → CaseTable case words a after → CaseTells case words a after
 row-tells (CaseTable.refused {g} {r} {n} {p} {d} i) =
@@ -267,9 +293,9 @@ row-tells (CaseTable.short-room {es} a h) =
       not-12 = λ e. omega arith;
       kept = λ x. refl;
     }
-row-tells (CaseTable.accepted {es} a h) =
+row-tells (CaseTable.accepted {es} {k} a counted h) =
     record {
-      is-0 = λ e. (es, a, h, refl, refl);
+      is-0 = λ e. (es, a, k, counted, h, refl, refl);
       is-9 = λ e. absurd (omega arith);
       is-other = λ x y. absurd (x refl);
       not-10 = λ e. omega arith;
@@ -322,26 +348,16 @@ by-itself (of-case t) h = t
 by-itself (of-page {f = f} q c i) h = absurd (omega (arith, reading-number f (i .refused .here)))
 
 module _ (case words : List ℕ) (r : CaseAnswer) (after : List ℕ) where
-  -- What `read_case` promises is a row of 01's table, of a case of octets, and its fifth number the pages' of an accepted case, else 0; and
-  -- such a row, of such a case, is what it promises.
-  pub read-case-exactly : ReadCasePromise case words r after
-      ↔ (CaseTable case words (withoutFifth r) after × Octets case × (r ≡ carryingCase (withoutFifth r) (caseRespelled case)))
-  unfolding readCaseAnswer
+  -- What `read_case` promises is a row of the table, of a case of octets; and such a row, of such a case, is what it promises.
+  pub read-case-exactly : ReadCasePromise case words r after ↔ (CaseTable case words r after × Octets case)
   read-case-exactly = (
-    λ p.
-        let four : withoutFifth r ≡ readCaseAnswer case (length words) = ap withoutFifth (p .0) in (
-          case-exactly case (p .2) words (withoutFifth r) after .0 (sym four, sym (p .1)),
-          p .2,
-          p .0 ∙ ap (λ (x : CaseAnswer). carryingCase x (caseRespelled case)) (sym four),
-        ),
-    λ row.
-        let e = case-exactly case (row .1) words (withoutFifth r) after .1 (row .0) in
-        (row .2 ∙ ap (λ (x : CaseAnswer). carryingCase x (caseRespelled case)) (sym (e .0)), sym (e .1), row .1),
+    λ p. (case-exactly case (p .2) words r after .0 (sym (p .0), sym (p .1)), p .2),
+    λ row. let e = of-row (row .0) in (sym (e .0), sym (e .1), row .1),
   )
 
   module _ (promise : ReadCasePromise case words r after) where
     -- The number tells the row.
-    pub read-case-tells : CaseTells case words (withoutFifth r) after
+    pub read-case-tells : CaseTells case words r after
     read-case-tells = row-tells (read-case-exactly .0 promise .0)
 
     answered : {a : CaseAnswer} {after′ : List ℕ} → CaseTable case words a after′ → r .answer .number ≡ a .answer .number
@@ -380,7 +396,7 @@ module _ (case words : List ℕ) (r : CaseAnswer) (after : List ℕ) where
     -- and 0 exactly when it is not.
     pub read-case-accepted : (r .answer .number ≡ 0) ↔ ((es : List Element) × AcceptedCase case es × (Size es ≤ length words))
     read-case-accepted =
-        (λ e. let t = read-case-tells .is-0 e in (t .0, t .1, t .2), λ x. answered (CaseTable.accepted (x .1) (x .2)))
+        (λ e. let t = read-case-tells .is-0 e in (t .0, t .1, t .4), λ x. answered (CaseTable.accepted (x .1) (case-has (x .1)) (x .2)))
 
     -- "A refusal writes nothing to any buffer."
     pub refusal-keeps : (r .answer .number ≡ 0 → ⊥) → after ≡ words

@@ -2,6 +2,7 @@ mod Pages
 mod Fills
 mod Rooms
 mod OnePage
+pub mod PageNumbers
 pub mod Cases
 pub mod EachPage
 pub mod Respelled

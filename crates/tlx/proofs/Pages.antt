@@ -6,13 +6,13 @@ use mathlib.Core.List.{List, [], _++_, append-assoc, append-nil}
 use native.Mathlib.Nat.{zero-add, add-zero, add-assoc}
 use native.Mathlib.Omega.{arith}
 use lib.ListN.{length, drop, length-append, drop-of-length-le}
-use borrow.Author.Tests.{eq-eqb, ne-eqb}
+use borrow.Author.Tests.{ne-eqb}
 use Rattle.run.specs.Loops.{Numbered}
 use Rattle.run.specs.Head.{Outcome, accepted, refusal}
 use Rattle.run.specs.declared.Answer.{Answer}
 use Rattle.run.specs.declared.ReadAnswer.{ReadAnswer}
 use Rattle.run.specs.Answers.{answer, given, roomyAnswer}
-use Rattle.run.proofs.Answers.{given-length}
+use Rattle.run.proofs.Answers.{given-length, accepted-carries}
 use Rattle.run.proofs.Loops.{run-few}
 use Rattle.run.proofs.Rooms.{numbered}
 use Rattle.sorts.specs.declared.Form.{Form}
@@ -34,7 +34,7 @@ use Rattle.case_table.proofs.PagePlaces.{right-header, pages-counted, start-nex
 use Rattle.tlx.specs.declared.CaseAnswer.{CaseAnswer}
 use Rattle.tlx.specs.CaseReading.{CaseOutcome, all, fault, joinPages, afterPage, readPage, readPages, readCase, aloneAnswer}
 use Rattle.tlx.specs.CaseReading.{aloneReading, caseMeasured, pagesRespelled, caseRespelled, carryingCase}
-use Rattle.tlx.specs.CaseReadingNumbers.{beside, withoutFifth}
+use Rattle.tlx.specs.CaseReadingNumbers.{beside}
 
 -- ---- one page
 
@@ -157,6 +157,10 @@ module _ {case : List ℕ} {form pages start page : ℕ} {es : List Element} (wa
 
 -- ---- the fifth number
 
+-- the four numbers of an answer and its page
+abbrev pub withoutFifth : CaseAnswer → CaseAnswer
+withoutFifth a = beside (a .page) (a .answer)
+
 -- a refusal carries 0
 pub carried-none : (a b : CaseAnswer) (k : ℕ) → withoutFifth a ≡ b → (a .answer .number ≡ 0 → ⊥) → withoutFifth a ≡ carryingCase b k
 carried-none a b k q n =
@@ -213,9 +217,7 @@ module _ {case : List ℕ} {form pages start page n count respelled : ℕ} (was 
 
     -- its fifth number, of an accepted page: the page's own, and at most its elements
     fifth : m .number ≡ 0 → r .respelled ≡ respelledIn form the-page
-    fifth z =
-        let t = eq-eqb (aloneAnswer (form, the-page) .number) 0 (sym (ap (λ (x : Answer). x .number) a) ∙ z) in
-        ap (λ (x : ReadAnswer). x .respelled) all-five ∙ rw t refl
+    fifth = accepted-carries _ _ all-five
 
     fifth-few : (fs : List Element) → readIn g the-page ≡ accepted fs → respelledIn form the-page ≤ length fs
     fifth-few fs q = omega (arith, respelled-is form g (was .read .right .is-form) the-page, respelled-few g the-page fs q)

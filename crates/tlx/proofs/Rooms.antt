@@ -26,8 +26,8 @@ use Rattle.tlx.specs.declared.CaseAnswer.{CaseAnswer}
 use Rattle.tlx.specs.CaseReading.{CaseOutcome, all, fault, joinPages, afterPage, readPage, readPages, readCase, turned}
 use Rattle.tlx.specs.CaseReading.{outcomeOf, pageOf, caseAnswer, caseMeasured, readCaseAnswer, readCaseWords, caseRespelled}
 use Rattle.tlx.specs.CaseReading.{carryingCase, readCaseReading}
-use Rattle.tlx.specs.CaseReadingNumbers.{beside, withoutFifth}
-use Rattle.tlx.proofs.Pages.{case-is, has-number, carried-none}
+use Rattle.tlx.specs.CaseReadingNumbers.{beside}
+use Rattle.tlx.proofs.Pages.{withoutFifth, case-is, has-number, carried-none}
 
 -- ---- a refusal has a number
 

@@ -1,6 +1,5 @@
--- Proved equal to CaseReadingNumbers: what reading a case comes to, its answer and what the lent words hold after (proofs/Cases:
--- case-exactly), with its fifth number (proofs/Respelled: case-respelled-exactly); one page's answer (proofs/EachPage: page-row,
--- of-page-row). A part of the code: `caseMeasured`.
+-- Proved equal to CaseReadingNumbers: what reading a case comes to, its answer with the fifth number, and what the lent words hold after
+-- (proofs/Cases: case-exactly); one page's answer (proofs/EachPage: page-row, of-page-row). A part of the code: `caseMeasured`.
 -- Assumes nothing.
 use Prim.Native.Nat.{ℕ, _+_}
 use mathlib.Core.List.{List, [], _∷_, _++_}
@@ -76,7 +75,8 @@ abbrev pub pageOf : CaseOutcome → ℕ
 pageOf (all es) = 0
 pageOf (fault page r n p d) = page
 
--- "An accepted case answers 0, all elements, its length, and the count of its pages' words"; 9 where the room is short
+-- "An accepted case answers 0, all elements, its length, and the count of its pages' words"; 9 where the room is short; `carryingCase` puts
+-- the fifth number in
 abbrev pub caseAnswer : ℕ → ℕ → CaseOutcome → CaseAnswer
 caseAnswer size room x = beside (pageOf x) (answerOf wordsOf size room (outcomeOf x))
 

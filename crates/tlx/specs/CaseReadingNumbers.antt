@@ -62,31 +62,35 @@ pub data RefusedCase (case : List ℕ) : ℕ → ℕ → ℕ → ℕ → ℕ →
 abbrev pub Size : List Element → ℕ
 Size es = length (given wordsOf es)
 
--- an answer, and the page beside it; the fifth number of an accepted case is `PagesApart`'s, and stands here as 0
+-- document 02, No. 5: how many elements of some pages are not canonical, page after page
+pub data PagesApart (f : Form) : List (List ℕ) → ℕ → Type 0 where
+  none : PagesApart f [] 0
+  more : {page : List ℕ} {pages ps : List (List ℕ)} {es : List Element} {k j : ℕ} → Run (Spells f) page ps es
+      → Apart (CanonicalElement f) ps es k → PagesApart f pages j → PagesApart f (page ∷ pages) (k + j)
+
+-- a refusal, which carries 0, and the page beside it
 abbrev pub beside : ℕ → Answer → CaseAnswer
 beside page a = record { answer = a; respelled = 0; page = page }
 
--- the four numbers of an answer and its page, without the fifth
-abbrev pub withoutFifth : CaseAnswer → CaseAnswer
-withoutFifth a = beside (a .page) (a .answer)
-
--- "13, 14, 11, 15, then pages from the first .., then 9": the four numbers and the page. The fifth number is not of this table, and stands
--- in it as 0 (`beside`): an accepted case carries what `PagesApart` counts (proofs/Respelled: case-respelled-exactly).
+-- "13, 14, 11, 15, then pages from the first .., then 9": the four numbers, the fifth, and the page
 pub data CaseTable (case words : List ℕ) : CaseAnswer → List ℕ → Type 0 where
   -- "the page named beside the answer (0 in any other answer)"; "A refusal writes nothing to any buffer."
   refused : {g r n p d : ℕ} → RefusedCase case g r n p d → CaseTable case words (beside g (answer r n p (countOf r d))) words
   -- 9: "lent room is short": "0; room needed"
   short-room : {es : List Element} → AcceptedCase case es → length words < Size es
       → CaseTable case words (beside 0 (shortRoom (Size es))) words
-  -- "An accepted case answers 0, all elements, its length, and the count of its pages' words, written one page after another."
-  accepted : {es : List Element} → AcceptedCase case es → Size es ≤ length words
-      → CaseTable case words (beside 0 (answer 0 (length es) (length case) (Size es))) (over words (given wordsOf es))
+  -- "An accepted case answers 0, all elements, its length, and the count of its pages' words, written one page after another"; and how
+  -- many elements of its pages are not canonical
+  accepted : {es : List Element} {k : ℕ} (c : AcceptedCase case es) → PagesApart (c .the-form) (c .pages) k → Size es ≤ length words
+      → CaseTable case words (record { answer = answer 0 (length es) (length case) (Size es); respelled = k; page = 0 })
+      (over words (given wordsOf es))
 
 -- The number tells the row; 10 and 12 are not asked of a case.
 pub record CaseTells (case words : List ℕ) (a : CaseAnswer) (after : List ℕ) : Type 0 where
   pub is-0 : a .answer .number ≡ 0
-      → (es : List Element) × AcceptedCase case es × (Size es ≤ length words)
-      × (a ≡ beside 0 (answer 0 (length es) (length case) (Size es))) × (after ≡ over words (given wordsOf es))
+      → (es : List Element) × (c : AcceptedCase case es) × (k : ℕ) × PagesApart (c .the-form) (c .pages) k × (Size es ≤ length words)
+      × (a ≡ record { answer = answer 0 (length es) (length case) (Size es); respelled = k; page = 0 })
+      × (after ≡ over words (given wordsOf es))
   pub is-9 : a .answer .number ≡ 9
       → (es : List Element) × AcceptedCase case es × (length words < Size es) × (a ≡ beside 0 (shortRoom (Size es)))
   pub is-other : (a .answer .number ≡ 0 → ⊥) → (a .answer .number ≡ 9 → ⊥)
@@ -95,13 +99,6 @@ pub record CaseTells (case words : List ℕ) (a : CaseAnswer) (after : List ℕ)
   pub not-10 : a .answer .number ≡ 10 → ⊥
   pub not-12 : a .answer .number ≡ 12 → ⊥
   pub kept : (a .answer .number ≡ 0 → ⊥) → after ≡ words
-
--- ---- document 02, No. 5: how many elements of some pages are not canonical, page after page
-
-pub data PagesApart (f : Form) : List (List ℕ) → ℕ → Type 0 where
-  none : PagesApart f [] 0
-  more : {page : List ℕ} {pages ps : List (List ℕ)} {es : List Element} {k j : ℕ} → Run (Spells f) page ps es
-      → Apart (CanonicalElement f) ps es k → PagesApart f pages j → PagesApart f (page ∷ pages) (k + j)
 
 -- ---- one page
 
