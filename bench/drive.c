@@ -22,7 +22,7 @@ static void fail(const char *what)
     exit(1);
 }
 
-/* ---- the texts: what each form reads and the GNU C library reads alike */
+/* ---- the texts: what each form reads, and but for the last two the GNU C library reads alike */
 
 static uint32_t seed = 1;
 

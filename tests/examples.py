@@ -71,7 +71,8 @@ def refusal_message(program: str, answer: Refused, text: bytes) -> str:
 def expected(asked: Conversion) -> Ending:
     answer, octets = model.convert_text(asked.source, asked.target, asked.text)
     if answer.number == 0:
-        return Ending(0, f"{answer.respelled} elements respelled\n".encode(), "", bytes(octets))
+        said = f"elements that were not canonical in form {asked.source}: {answer.respelled}\n"
+        return Ending(0, said.encode(), "", bytes(octets))
     return Ending(1, b"", refusal_message("convert", answer, asked.text))
 
 
@@ -115,7 +116,7 @@ def pages() -> Iterator[tuple[int, bytes]]:
 
 
 def expected_page(form: int, page: bytes) -> Ending:
-    """The words up to the end or the first fault, one to a line, and then the three counts."""
+    """The words up to the end or the first fault, one to a line, and then the four counts."""
     if form not in model.FORMS:
         return Ending(1, b"", refusal_message("serial", model.Answer(11), page))
     # Off a file each piece has 7 octets, and the one that would pass the limit is not read.
@@ -125,7 +126,8 @@ def expected_page(form: int, page: bytes) -> Ending:
     printed = "".join(f"{word:08X}\n" for word in words)
     if is_long or refusal:
         return Ending(1, printed.encode(), refusal_message("serial", model.Answer(12) if is_long else refusal, page))
-    return Ending(0, f"{printed}{len(pieces)} elements, {len(page)} octets, {len(words)} words\n".encode(), "")
+    elements = f"{len(pieces)} elements, {model.respelled_in(pieces)} of them not canonical"
+    return Ending(0, f"{printed}{elements}; {len(page)} octets, {len(words)} words\n".encode(), "")
 
 
 def run_page(program: Sequence[str], form: int, page: bytes, folder: pathlib.Path) -> Ending:
@@ -251,9 +253,13 @@ def expected_respelled(form: int, text: bytes) -> Ending:
     return Ending(0, f"{printed}{len(pieces)} elements, {model.respelled_in(pieces)} of them not canonical\n".encode(), "")
 
 
+# Elements of as many words as one has: in 40 octets, the most of any spelling, and in 35, of which 34 are canonical, the most of such a one.
+LONGEST = (3, b"\x9B0001;002;0000003;4;5;06;0007;00000000 L\x9B0999;999;999;999;999;999;999;999 L")
+
+
 def check_respelled(program: Sequence[str], folder: pathlib.Path) -> tuple[int, int]:
     passed = failed = 0
-    counted = [(form, bytes.fromhex(text)) for form, text, _ in model.RESPELLED]
+    counted = [(form, bytes.fromhex(text)) for form, text, _ in model.RESPELLED] + [LONGEST]
     for form, text in [*pages(), *counted, *((form, text + b"\x1B") for form, text in counted)]:
         (folder / "text").write_bytes(text)
         ended = subprocess.run([*program, str(form), str(folder / "text")], capture_output=True, check=False)

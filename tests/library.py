@@ -143,11 +143,12 @@ def short() -> Iterator[Asked]:
 
 
 def three_octets() -> Iterator[Asked]:
-    """All texts of SS2 and two octets in form 2, and of CC and two octets in form 3, read and converted within the form."""
+    """All texts of SS2 and two octets in form 2, and of CC and two octets in form 3, read, their first element by itself, and converted within the form."""
     for form, first in ((2, model.SS2), (3, model.UNDERLINE)):
         for octets in itertools.product(range(256), repeat=2):
             text = bytes((first, *octets))
             yield reading(form, text, len(text))
+            yield elements_read(form, text, 1, places=1)
             yield converting(form, form, text, 2 * len(text))
 
 

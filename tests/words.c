@@ -25,6 +25,9 @@ static_assert(!OAK_IS_GRAPHIC(69225473) && !OAK_IS_UNDERLINED(69225473) && !OAK_
 static_assert(OAK_INTERMEDIATE(67136769) == 0 && OAK_INTERMEDIATE(69225473) == 0x20, "intermediates");
 static_assert(OAK_FINAL(67136769) == 0x6D && OAK_FINAL(69225473) == 0x4C && OAK_VALUES(69225473) == 1, "finals");
 
+/* A sequence with all its eight values is the longest element. */
+static_assert(OAK_MOST_WORDS == 1 + OAK_VALUES(OAK_SEQUENCE_OF(0, 0x6D, 8)), "the most words");
+
 /* The answers and comparisons are as the library lays them out, and so is a carry, up to its last octet. */
 static_assert(sizeof(struct oak_answer) == 32 && sizeof(struct oak_reading) == 40, "answers");
 static_assert(offsetof(struct oak_reading, respelled) == 32 && offsetof(struct oak_case_answer, respelled) == 32, "the fifth number");

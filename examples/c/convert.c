@@ -3,10 +3,11 @@
  *
  *     convert SOURCE TARGET FILE OUTPUT
  *
- * SOURCE and TARGET are 1 (T51String in eight bits), 2 (in seven bits) or 3 (basic T.61). One line says how many elements were respelled:
- * those that did not stand in SOURCE's canonical spelling. Exit status: 0, converted; 1, the text is refused, and the message names the
- * octet and its place, except for 11 and 12, which are about none; 2, anything else. OUTPUT is written only where the text is converted.
+ * SOURCE and TARGET are 1 (T51String in eight bits), 2 (in seven bits) or 3 (basic T.61). One line says how many elements did not
+ * stand in SOURCE's canonical spelling. Exit status: 0, converted; 1, the text is refused, and the message names the octet and its place,
+ * except for 11 and 12, which are about none; 2, anything else. OUTPUT is written only where the text is converted.
  */
+#include <inttypes.h>
 #include <stdint.h>
 #include <stdio.h>
 #include <stdlib.h>
@@ -102,7 +103,7 @@ static int convert(uint32_t source, uint32_t target, struct octets text, const c
         status = refused(a, text);
     else if (!store(output, out))
         status = fail(output, "cannot be written");
-    else if (printf("%zu elements respelled\n", a.respelled) < 0 || fflush(stdout) != 0)
+    else if (printf("elements that were not canonical in form %" PRIu32 ": %zu\n", source, a.respelled) < 0 || fflush(stdout) != 0)
         status = fail("the number", "cannot be written");
     free(out.start);
     return status;

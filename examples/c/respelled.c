@@ -4,10 +4,10 @@
  *     respelled FORM FILE
  *
  * FORM is 1 (T51String in eight bits), 2 (in seven bits) or 3 (basic T.61). Each such element has a line, with its octets in hex, its place
- * and its canonical spelling. The last line says how many elements there are, and how many of them are not canonical: so many would be
- * respelled by a conversion. Elements and places are counted from 0. Exit status: 0, the text is read; 1, it is refused, and the message
- * names the octet and its place, except for 11 and 12, which are about none; 2, anything else. The elements before a fault are named in any
- * case.
+ * and its canonical spelling. The last line says how many elements there are, and how many of them are not canonical: the number
+ * that a conversion of the file carries. Elements and places are counted from 0. Exit status: 0, the text is read; 1, it is refused, and the
+ * message names the octet and its place, except for 11 and 12, which are about none; 2, anything else. The elements before a fault are named
+ * in any case.
  */
 #include <stdint.h>
 #include <stdio.h>
@@ -98,10 +98,16 @@ static struct oak_reading go_through(uint32_t form, struct octets text)
     }
 }
 
+/* Whether all that was printed so far could be written: a line that was lost is remembered. */
+static int is_printed(void)
+{
+    return fflush(stdout) == 0 && !ferror(stdout);
+}
+
 static int name_each(uint32_t form, struct octets text)
 {
     struct oak_reading a = go_through(form, text);
-    if (fflush(stdout) != 0)
+    if (!is_printed())
         return fail("the elements", "cannot be written");
     if (a.number != OAK_ACCEPTED)
         return refused(a, text);
@@ -114,7 +120,7 @@ static int name_each(uint32_t form, struct octets text)
     if (whole.number != OAK_ACCEPTED || whole.element != a.element || whole.respelled != a.respelled)
         return fail("the number", "it is another where the text is read at once");
     printf("%zu elements, %zu of them not canonical\n", a.element, a.respelled);
-    return fflush(stdout) == 0 ? 0 : fail("the number", "cannot be written");
+    return is_printed() ? 0 : fail("the number", "cannot be written");
 }
 
 /* The whole file, or a null start where it cannot be had. */

@@ -83,7 +83,8 @@ static int read_page(uint32_t form)
     }
     if (fed.answer.number != OAK_ACCEPTED)
         return refused(fed.answer, kept);
-    printf("%zu elements, %zu octets, %zu words\n", fed.answer.element, fed.answer.place, fed.answer.count);
+    struct oak_reading a = fed.answer;
+    printf("%zu elements, %zu of them not canonical; %zu octets, %zu words\n", a.element, a.respelled, a.place, a.count);
     return fflush(stdout) == 0 ? 0 : fail("the words", "cannot be written");
 }
 

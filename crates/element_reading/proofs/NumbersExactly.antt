@@ -1,7 +1,7 @@
 -- What `element_at` finds keeps its promise: 01's four numbers of it, the fifth, and the element's words, stand in 01's row for the place,
 -- and in no other.
 -- Assumes nothing.
-use Prim.Native.Nat.{ℕ, _+_}
+use Prim.Native.Nat.{ℕ, _+_, _-_}
 use mathlib.Core.Path.{_≡_, refl, sym, ap, ap₂, _∙_, subst, subst₂}
 use mathlib.Core.Logic.{_↔_}
 use mathlib.Core.Bool.{Bool, true, false}
@@ -19,9 +19,10 @@ use Rattle.run.proofs.Choices.{is-false}
 use Rattle.sorts.specs.declared.Form.{Form}
 use Rattle.element_words.specs.declared.Element.{Element}
 use Rattle.element_words.specs.Words.{wordsOf}
-use Rattle.element_spelling.specs.ElementOctets.{isCanonical}
+use Rattle.element_spelling.specs.ElementOctets.{CanonicalElement, isCanonical}
 use Rattle.element_spelling.proofs.Writer.{is-canonical}
 use Rattle.element_reading.specs.declared.Step.{Step}
+use Rattle.element_reading.specs.declared.Step.the-variants.{Element as Read}
 use Rattle.element_reading.specs.Grammar.{Spells}
 use Rattle.element_reading.specs.ElementHead.{headIn, stepOf, stepAt}
 use Rattle.element_reading.specs.ElementNumbers.{stepReading, stepWords, reading, ElementRow}
@@ -41,7 +42,8 @@ module _ (f : Form) (text : List ℕ) (at : ℕ) where
   piece : {e : Element} {k : ℕ} (b : Begins (Spells f) (drop at text) e k) → take k (drop at text) ≡ b .front
   piece b = ap₂ take (b .size) (b .whole) ∙ take-append-seam (b .front) (b .rest)
 
-  element-row : (e : Element) (k : ℕ) (b : Begins (Spells f) (drop at text) e k) (t : Bool) → isCanonical f (b .front) e ≡ t
+  -- an element that stands there has its row, by the test of its octets
+  pub element-row : (e : Element) (k : ℕ) (b : Begins (Spells f) (drop at text) e k) (t : Bool) → isCanonical f (b .front) e ≡ t
       → ElementRow f text at (reading (answer 0 1 (at + k) (length (wordsOf e))) (pick t 0 1)) (wordsOf e)
   element-row e k b true q = ElementRow.canonical b (says-canonical f (b .spells) q)
   element-row e k b false q =
@@ -86,6 +88,28 @@ module _ (f : Form) (text : List ℕ) (at : ℕ) where
   pub step-exactly : (a : ReadAnswer) (ws : List ℕ)
       → ElementRow f text at a ws ↔ ((stepReading (stepAt f text at) ≡ a) × (stepWords (stepAt f text at) ≡ ws))
   step-exactly a ws = (row-step, λ e. subst₂ (ElementRow f text at) (e .0) (e .1) step-row)
+
+  -- The flag of an element that is read holds exactly where the octets read, from its place up to the one after it, are its canonical
+  -- spelling.
+  flag-by : (h : Head Element) → headIn f (drop at text) ≡ h → (e : Element) (next : ℕ) (b : Bool) → Read e next b ≡ step h
+      → (b ≡ true) ↔ CanonicalElement f (take (next - at) (drop at text)) e
+  flag-by (element e₀ k) q e next b z =
+      let i = reads f .found (drop at text) e₀ k q in
+      let same : e₀ ≡ e = cc in
+      let after : next ≡ at + k = cc in
+      let told : b ≡ isCanonical f (take k (drop at text)) e₀ = cc in
+      let size : next - at ≡ k = omega (arith, after) in
+      let octets : take (next - at) (drop at text) ≡ i .front = ap (λ (n : ℕ). take n (drop at text)) size ∙ piece i in
+      let test : b ≡ isCanonical f (take (next - at) (drop at text)) e =
+      told ∙ ap₂ (λ (n : ℕ) (x : Element). isCanonical f (take n (drop at text)) x) (sym size) same in
+      (λ y. says-canonical f (subst₂ (Spells f) (sym octets) same (i .spells)) (sym test ∙ y), λ c. test ∙ is-canonical f c)
+  flag-by (refused r d) q e next b z = let w : _≡_ {A = ℕ} 0 1 = cc in absurd (omega arith)
+  flag-by none q e next b z = let w : _≡_ {A = ℕ} 0 1 = cc in absurd (omega arith)
+
+  pub flag-exactly : (e : Element) (next : ℕ) (b : Bool) → ElementAtPromise f text at (Read e next b)
+      → (b ≡ true) ↔ CanonicalElement f (take (next - at) (drop at text)) e
+  unfolding stepAt
+  flag-exactly e next b promise = flag-by (headIn f (drop at text)) refl e next b (promise .0)
 
   pub step-kept : (r : Step) → r ≡ stepAt f text at → ElementAtPromise f text at r
   step-kept r e = (e, subst Told (sym e) step-row)

@@ -91,6 +91,13 @@ carrying-none a k h = rw (ne-eqb (a .number) 0 h)
 pub carrying-it : (a : Answer) (k : ℕ) → a .number ≡ 0 → _≡_ {A = ReadAnswer} (record { answer = a; respelled = k }) (carrying a k)
 carrying-it a k h = rw (eq-eqb (a .number) 0 h)
 
+pub carrying-zero : (a : Answer) → _≡_ {A = ReadAnswer} (carrying a 0) (record { answer = a; respelled = 0 })
+carrying-zero a = go (eqb (a .number) 0)
+  where
+    go : (t : Bool) → _≡_ {A = ReadAnswer} (record { answer = a; respelled = pick t 0 0 }) (record { answer = a; respelled = 0 })
+    go true = refl
+    go false = refl
+
 -- An accepted answer carries it,
 pub accepted-carries : {r : ReadAnswer} (a : Answer) (k : ℕ) → r ≡ carrying a k → r .answer .number ≡ 0 → r .respelled ≡ k
 accepted-carries a k e z =

@@ -51,14 +51,6 @@ apart-once (spelt c h) (apart n g) = absurd (n c)
 apart-once (apart n h) (spelt c g) = absurd (n c)
 apart-once (apart n h) (apart m g) = ap suc (apart-once h g)
 
--- side by side over joined runs
-pub apart-joined : {X A : Type 0} {C : List X → A → Type 0} {ps qs : List (List X)} {es fs : List A} {k j : ℕ}
-    → Apart C ps es k → Apart C qs fs j → Apart C (ps ++ qs) (es ++ fs) (k + j)
-apart-joined {C = C} {qs = qs} {fs = fs} {j = j} none g = subst (Apart C qs fs) (sym (zero-add j)) g
-apart-joined (spelt c h) g = spelt c (apart-joined h g)
-apart-joined {C = C} {j = j} (apart {p} {e} {ps} {es} {k} n h) g =
-    subst (Apart C _ _) (let z : suc (k + j) ≡ suc k + j = omega arith in z) (apart n (apart-joined h g))
-
 module _ {X A : Type 0} (tag : List X → A → Bool) {head : List X → Head A} {S : List X → A → Type 0} (laws : Reads head S) where
   -- what a list comes to is what the tagged head makes of it, without the tags
   tagged-outcome : (s : List X) (es : List A) → outcome head s ≡ accepted es

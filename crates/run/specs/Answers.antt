@@ -1,5 +1,5 @@
--- To be believed: the four numbers of an answer, and what a lent buffer holds after ("The numbers an answer carries"). Below, where it is
--- said: what is proved equal to 01's tables, and parts of the code.
+-- To be believed: the four numbers of an answer, the fifth of a reading, and what a lent buffer holds after ("The numbers an answer
+-- carries"; document 02, No. 5). Below, where it is said: what is proved equal to the documents' tables, and parts of the code.
 -- Assumes nothing.
 use Prim.Native.Nat.{ℕ, _≤_}
 use mathlib.Core.Path.{_≡_}
@@ -11,7 +11,7 @@ use Rattle.run.specs.Head.{Outcome, accepted, refusal}
 use Rattle.run.specs.declared.Answer.{Answer}
 use Rattle.run.specs.declared.ReadAnswer.{ReadAnswer}
 
--- ---- to be believed: the tables of document 01 are stated with these
+-- ---- to be believed: the tables of the documents are stated with these
 
 -- four numbers as an answer
 abbrev pub answer : ℕ → ℕ → ℕ → ℕ → Answer
@@ -25,12 +25,7 @@ bare r = answer r 0 0 0
 abbrev pub shortRoom : ℕ → Answer
 shortRoom needed = answer 9 0 0 needed
 
--- an answer with the fifth number of document 02, No. 5: "An accepted reading .. or conversion .. carries a fifth number", which "is 0 on
--- a refusal"
-abbrev pub carrying : Answer → ℕ → ReadAnswer
-carrying a k = record { answer = a; respelled = pick (eqb (a .number) 0) k 0 }
-
--- the same of any number that is counted so: an accepted answer carries it, a refusal 0 (proofs/Answers: carries-exactly)
+-- document 02, No. 5: "An accepted reading .. or conversion .. carries a fifth number", which "is 0 on a refusal"
 pub record Carries (Counted : ℕ → Type 0) (r : ReadAnswer) : Type 0 where
   pub on-acceptance : r .answer .number ≡ 0 → Counted (r .respelled)
   pub on-refusal : (r .answer .number ≡ 0 → ⊥) → r .respelled ≡ 0
@@ -53,6 +48,10 @@ abbrev pub same : List ℕ → List ℕ
 same s = s
 
 -- ---- proved equal to the tables (crates `text_reading`, `text`, `tlx`): an answer and a buffer, by what a list comes to
+
+-- an answer with its fifth number: exactly one that `Carries` what is counted (proofs/Answers: carries-exactly)
+abbrev pub carrying : Answer → ℕ → ReadAnswer
+carrying a k = record { answer = a; respelled = pick (eqb (a .number) 0) k 0 }
 
 -- Accepted: 0, elements, input length, entries written; 9 with the room needed where the room is short; a refusal as it is.
 -- n is the input's length, room the length of the lent buffer.

@@ -1,4 +1,4 @@
-// The four numbers that every answer carries (document 01, "The numbers an answer carries"), and writing an octet.
+// The four numbers that every answer carries (document 01, "The numbers an answer carries"), and a reading's fifth; writing an octet.
 ghost use Rattle.run.specs.Promises.{BareAnswerPromise, ShortRoomPromise, ReadingOfPromise, PutPromise};
 
 #[repr(C)]

@@ -3,7 +3,7 @@
 -- like), in the words of the grammar (`Spells`, `Refuses`, `CanonicalElement`, `Held`), over the form. The sentence above each is the
 -- demand's that it carries out; document 01's own words, and 02's where it is named, stand in quotation marks.
 -- Assumes nothing.
-use Prim.Native.Nat.{ℕ, _+_, _≤_, _<_}
+use Prim.Native.Nat.{ℕ, _+_, _-_, _≤_, _<_}
 use mathlib.Core.Path.{_≡_, refl, sym, ap, ap₂, _∙_, subst, subst₂}
 use mathlib.Core.Logic.{_↔_, _⊎_, inl, inr}
 use mathlib.Core.Bool.{Bool, true, false}
@@ -30,13 +30,15 @@ use Rattle.sorts.specs.Forms.{formOf, inForm}
 use Rattle.element_words.specs.declared.Element.{Element}
 use Rattle.element_words.specs.Words.{wordsOf}
 use Rattle.element_reading.specs.Grammar.{Spells, Refuses}
+use Rattle.element_reading.specs.declared.Step.the-variants.{Element as Read}
 use Rattle.element_reading.specs.ElementNumbers.{stepAnswer, stepReading, stepWords, ElementRow}
-use Rattle.element_spelling.specs.ElementOctets.{CanonicalElement, Held, Writes, isCanonical}
+use Rattle.element_spelling.specs.ElementOctets.{CanonicalElement, Held, Writes}
 use Rattle.element_reading.proofs.Reader.{reads}
-use Rattle.element_reading.proofs.ReadBack.{canonical-spells, read-held, says-canonical}
+use Rattle.element_reading.proofs.ReadBack.{canonical-spells, read-held}
+use Rattle.element_reading.proofs.NumbersExactly.{element-row}
 use Rattle.element_reading.proofs.Places.{reading-number}
-use Rattle.element_spelling.proofs.Writer.{one-spelling, is-canonical, writer-reads, writer-refuses-exactly}
-use Rattle.text_loops.specs.Fronts.{readIn}
+use Rattle.element_spelling.proofs.Writer.{one-spelling, writer-reads, writer-refuses-exactly}
+use Rattle.text_loops.specs.Fronts.{readIn, respelledBefore}
 use Rattle.text_reading.specs.ReadAnswers.{within-limit, readAnswer, readWords, respelledIn, loneStep, oneReading, oneWords}
 use Rattle.text_reading.specs.Promises.{MeasurePromise, ReadPromise, ReadElementPromise, ReadOnePromise}
 use Rattle.text_reading.specs.ReadingNumbers.{limit, Answered, Formed, Tells, ReadingFault, ReadTable, LoneTable, OneTable}
@@ -48,7 +50,7 @@ use Rattle.text_loops.proofs.Steps.{count-is-place}
 use Rattle.text_loops.proofs.FewWords.{words-fit}
 use Rattle.text_reading.proofs.Respelled as respelled
 use Rattle.text_reading.proofs.ReadTexts.{read-meets}
-use Rattle.text_reading.proofs.Lone.{lone-exactly, one-exactly}
+use Rattle.text_reading.proofs.Lone.{lone-exactly, lone-flag, one-exactly}
 use Rattle.text_reading.proofs.OneAnswer as reading
 use Rattle.text.specs.Outcomes.{Respells, writeIn, convertIn}
 use Rattle.text.specs.WriteAnswers.{writeAnswer, writeText, convertAnswer, convertText}
@@ -307,20 +309,15 @@ read-element-refused form f q text at r d l h =
 pub read-element-read : (form : ℕ) (f : Form) → formOf form ≡ Is f → (text : List ℕ) (at k : ℕ) (e : Element) → length text ≤ limit
     → Begins (Spells f) (drop at text) e k
     → (stepAnswer (loneStep form text at) ≡ answer 0 1 (at + k) (length (wordsOf e))) × (stepWords (loneStep form text at) ≡ wordsOf e)
-read-element-read form f q text at k e l b = go (isCanonical f (b .front) e) refl
-  where
-    row : {a : ReadAnswer} → ElementRow f text at a (wordsOf e)
-        → (stepAnswer (loneStep form text at) ≡ a .answer) × (stepWords (loneStep form text at) ≡ wordsOf e)
-    row r =
-        let z = lone-exactly form text at _ _ .1 (LoneTable.one-element q l r) in
-        (ap (λ (x : ReadAnswer). x .answer) (z .0), z .1)
+read-element-read form f q text at k e l b =
+    let z = lone-exactly form text at _ _ .1 (LoneTable.one-element q l (element-row f text at e k b _ refl)) in
+    (ap (λ (x : ReadAnswer). x .answer) (z .0), z .1)
 
-    go : (t : Bool) → isCanonical f (b .front) e ≡ t
-        → (stepAnswer (loneStep form text at) ≡ answer 0 1 (at + k) (length (wordsOf e))) × (stepWords (loneStep form text at) ≡ wordsOf e)
-    go true z = row (ElementRow.canonical b (says-canonical f (b .spells) z))
-    go false z =
-        row (ElementRow.otherwise b (λ c. let y : true ≡ false = sym (is-canonical f c) ∙ z in
-        let w : _≡_ {A = ℕ} 0 1 = cc in omega arith))
+-- Document 02: "Each element read must also say whether it stood in its form's canonical spelling": it did exactly where the octets from its
+-- place up to the one after it are its canonical spelling.
+pub read-element-flag : (form : ℕ) (f : Form) → formOf form ≡ Is f → (text : List ℕ) (at : ℕ) (e : Element) (next : ℕ) (b : Bool)
+    → ReadElementPromise form text at (Read e next b) → (b ≡ true) ↔ CanonicalElement f (take (next - at) (drop at text)) e
+read-element-flag form f q text at = lone-flag form text at f q
 
 row-low : {f : Form} {text : List ℕ} {at : ℕ} {a : ReadAnswer} {words : List ℕ} → ElementRow f text at a words → a .answer .number < 9
 row-low (ElementRow.none-left p) = omega arith
@@ -917,7 +914,29 @@ module _ (source second third : ℕ) (text out last : List ℕ) where
           (subst (λ (u : List ℕ). RunOf (CanonicalElement (b .1 .0)) u (w .converted .meaning)) (sym (w .wrote)) (w .converted .canonical))
       go Nothing q = both-11 s (b .0 .0) (b .1 .0) (b .0 .1) (b .1 .1) (none-exactly third .0 q)
 
--- ======== Document 02, No. 5: what a conversion carries
+-- ======== Document 02, No. 5: what a reading carries, and a conversion
+
+-- Of a reading it is at most the number of elements;
+pub read-few : (form : ℕ) (text words : List ℕ) {r : ReadAnswer} {after : List ℕ} → ReadPromise form text words r after
+    → r .answer .number ≡ 0 → r .respelled ≤ r .answer .element
+read-few form text words p z =
+    let f = of-form form text words p (omega arith) in
+    let x = run-read form (f .0) (f .1) text words p z in
+    let few = respelled.respelled-few (f .0) text (x .0) (read-meets (f .0) text .runs (x .0) .1 (x .1)) in
+    omega (arith, x .2, respelled.reading-carries form text (length words) (p .0) (f .0) (f .1) z, few)
+
+-- and "It adds up over joined texts".
+pub joined-readings : (form : ℕ) (s t words₁ words₂ words : List ℕ) {q₁ q₂ q : ReadAnswer} {w₁ w₂ w : List ℕ}
+    → ReadPromise form s words₁ q₁ w₁ → q₁ .answer .number ≡ 0 → ReadPromise form t words₂ q₂ w₂ → q₂ .answer .number ≡ 0
+    → ReadPromise form (s ++ t) words q w → q .answer .number ≡ 0 → q .respelled ≡ q₁ .respelled + q₂ .respelled
+joined-readings form s t words₁ words₂ words p₁ z₁ p₂ z₂ p z =
+    let f = of-form form s words₁ p₁ (omega arith) in
+    let x = run-read form (f .0) (f .1) s words₁ p₁ z₁ in
+    let one = respelled.reading-carries form s (length words₁) (p₁ .0) (f .0) (f .1) z₁ in
+    let other = respelled.reading-carries form t (length words₂) (p₂ .0) (f .0) (f .1) z₂ in
+    respelled.reading-carries form (s ++ t) (length words) (p .0) (f .0) (f .1) z
+    ∙ respelled.respelled-joined (f .0) s t (x .0) (x .1)
+    ∙ sym (ap₂ _+_ one other)
 
 module _ (source target : ℕ) (text out : List ℕ) {r : ReadAnswer} {after : List ℕ} (p : ConvertPromise source target text out r after) where
   -- An accepted conversion carries the number that reading its text with room enough carries: "elements not canonical in the source form".
@@ -947,19 +966,60 @@ module _ (source target : ℕ) (text out : List ℕ) {r : ReadAnswer} {after : L
       let fifth = accepted-carries _ _ (p .0) z ∙ respelled.respelled-is source f (b .0 .1) text in
       omega (arith, n, fifth, respelled.respelled-few f text (c .meaning) (read-meets f text .runs (c .meaning) .1 (c .means)))
 
+  -- It is 0 exactly where converting back, with room for the text, gives the text octet for octet. What was written is within the limit, so
+  -- that it is read again.
+  pub had-back : r .answer .number ≡ 0 → length (take (r .answer .count) after) ≤ limit → (back : List ℕ) → length text ≤ length back
+      → {q : ReadAnswer} {again : List ℕ} → ConvertPromise target source (take (r .answer .count) after) back q again
+      → (r .respelled ≡ 0) ↔ ((q .answer .number ≡ 0) × (take (q .answer .count) again ≡ text))
+  had-back z l back room {q} {again} p′ = (forth, λ h. fifth ∙ respelled.respelled-canonical f (canonical h .1))
+    where
+      b : ((f : Form) × (formOf source ≡ Is f)) × ((g : Form) × (formOf target ≡ Is g))
+      b = between-forms source target text out p (omega arith)
+
+      f : Form
+      f = b .0 .0
+
+      g : Form
+      g = b .1 .0
+
+      there : Accepted source target f g text out (r .answer) after
+      there = accepted-by source target f g (b .0 .1) (b .1 .1) text out p z
+
+      fifth : r .respelled ≡ respelledBefore f text
+      fifth = accepted-carries _ _ (p .0) z ∙ respelled.respelled-is source f (b .0 .1) text
+
+      forth : r .respelled ≡ 0 → (q .answer .number ≡ 0) × (take (q .answer .count) again ≡ text)
+      forth e =
+          let c = there .converted in
+          let s = subst (λ (u : List ℕ). RunOf (CanonicalElement g) u (c .meaning)) (sym (there .wrote)) (c .canonical) in
+          let a =
+          convert-accepted target source g f (b .1 .1) (b .0 .1) _ text back (c .meaning) l (s .0, canonical-run g (s .1))
+          (read-all-held f (c .means .1)) (respelled.respelled-none f (c .means) .0 (sym fifth ∙ e)) room in (
+            ap (λ (x : Answer). x .number) (four (p′ .0) ∙ a .0),
+            ap₂ take (ap (λ (x : Answer). x .count) (four (p′ .0) ∙ a .0)) (p′ .1 ∙ a .1) ∙ take-append-seam text (drop (length text) back),
+          )
+
+      canonical : (q .answer .number ≡ 0) × (take (q .answer .count) again ≡ text)
+          → (es : List Element) × RunOf (CanonicalElement f) text es
+      canonical h =
+          let a = accepted-by target source g f (b .1 .1) (b .0 .1) (take (r .answer .count) after) back p′ (h .0) in
+          let octets = sym (a .wrote) ∙ h .1 in
+          let m = a .converted .meaning in
+          (m, subst (λ (u : List ℕ). RunOf (CanonicalElement f) u m) octets (a .converted .canonical))
+
   -- It "is 0 on a refusal".
   pub refused-carries-0 : (r .answer .number ≡ 0 → ⊥) → r .respelled ≡ 0
   refused-carries-0 = refused-carries _ _ (p .0)
 
--- the number of a text behind one that is read
-respelled-joined : (form : ℕ) (f : Form) → formOf form ≡ Is f → (s t : List ℕ) (es : List Element) → RunOf (Spells f) s es
+-- the number of a text behind one that is read, by the number of its form
+joined-in : (form : ℕ) (f : Form) → formOf form ≡ Is f → (s t : List ℕ) (es : List Element) → RunOf (Spells f) s es
     → respelledIn form (s ++ t) ≡ respelledIn form s + respelledIn form t
-respelled-joined form f q s t es r =
+joined-in form f q s t es r =
     respelled.respelled-is form f q (s ++ t)
     ∙ respelled.respelled-joined f s t es r
     ∙ sym (ap₂ _+_ (respelled.respelled-is form f q s) (respelled.respelled-is form f q t))
 
--- "It adds up over joined texts": as `joined-converts`, of the fifth number.
+-- "It adds up over joined texts", of conversions: as `joined-converts`, of the fifth number.
 pub joined-carries : (source target : ℕ) (s t : List ℕ) → length (s ++ t) ≤ limit → (out₁ out₂ out : List ℕ) {r₁ r₂ r : ReadAnswer}
     {a₁ a₂ after : List ℕ} → ConvertPromise source target s out₁ r₁ a₁ → r₁ .answer .number ≡ 0
     → ConvertPromise source target t out₂ r₂ a₂ → r₂ .answer .number ≡ 0 → r₁ .answer .count + r₂ .answer .count ≤ length out
@@ -970,7 +1030,7 @@ joined-carries source target s t within out₁ out₂ out p₁ z₁ p₂ z₂ ro
     let f = b .0 .0 in
     let c = accepted-by source target f (b .1 .0) (b .0 .1) (b .1 .1) s out₁ p₁ z₁ .converted in
     accepted-carries _ _ (p .0) z
-    ∙ respelled-joined source f (b .0 .1) s t (c .meaning) (c .means)
+    ∙ joined-in source f (b .0 .1) s t (c .meaning) (c .means)
     ∙ sym (ap₂ _+_ (accepted-carries _ _ (p₁ .0) z₁) (accepted-carries _ _ (p₂ .0) z₂))
 
 -- ======== "Sixteen readings to prove": all of them and only these, as one table under one claim, by computation

@@ -1,13 +1,13 @@
 -- A lone read answers exactly what document 01's table and order say, and so keeps its promise.
 -- Assumes nothing.
-use Prim.Native.Nat.{ℕ, _+_, _≤_, _<_}
+use Prim.Native.Nat.{ℕ, _+_, _-_, _≤_, _<_}
 use mathlib.Core.Path.{_≡_, refl, sym, ap, ap₂, _∙_, subst, subst₂}
 use mathlib.Core.Logic.{_↔_, ⊎-elim}
 use mathlib.Core.Bool.{Bool, true, false}
 use mathlib.Core.List.{List, [], _∷_}
 use native.Mathlib.Omega.{arith}
-use lib.ListN.{length}
-use lib.Dec.{eqb, leb}
+use lib.ListN.{length, take, drop}
+use lib.Dec.{leb}
 use borrow.Author.Tests.{leb-true, leb-false, le-leb, lt-leb}
 use types.Run.{OneOf}
 use denote.Enum.Declared.{tagOf}
@@ -15,6 +15,7 @@ use Rattle.run.specs.Choice.{pick}
 use Rattle.run.specs.declared.ReadAnswer.{ReadAnswer}
 use Rattle.run.specs.declared.Answer.{Answer}
 use Rattle.run.specs.Answers.{answer, over, shortRoom, carrying}
+use Rattle.run.proofs.Answers.{carrying-zero}
 use Rattle.run.proofs.Puts.{put-over, put-fits}
 use Rattle.sorts.specs.declared.Form.{Form}
 use Rattle.sorts.specs.declared.FormFound.{FormFound}
@@ -27,10 +28,11 @@ use Rattle.element_reading.proofs.Step.{the-type}
 use Rattle.element_words.specs.declared.Element.{Element}
 use Rattle.element_words.specs.Words.{wordsOf}
 use Rattle.element_words.specs.Promises.{PutWordsPromise}
+use Rattle.element_spelling.specs.ElementOctets.{CanonicalElement}
 use Rattle.text_loops.specs.Fronts.{stepAnswerAfter}
 use Rattle.element_reading.specs.ElementHead.{stepAt}
 use Rattle.element_reading.specs.ElementNumbers.{stepReading, stepWords, reading}
-use Rattle.element_reading.proofs.NumbersExactly.{step-exactly}
+use Rattle.element_reading.proofs.NumbersExactly.{step-exactly, flag-exactly, step-kept}
 use Rattle.text_reading.specs.ReadAnswers.{within-limit, loneStep, fitsOr, oneReading, oneWords}
 use Rattle.text_reading.specs.ReadingNumbers.{limit, LoneTable, OneTable}
 use Rattle.text_reading.specs.Promises.{ReadElementPromise, ReadOnePromise}
@@ -76,6 +78,22 @@ module _ (form : ℕ) (text : List ℕ) (at : ℕ) where
   pub lone-kept : (r : Step) → r ≡ loneStep form text at → ReadElementPromise form text at r
   lone-kept r q = (q, subst Row (sym q) its-row)
 
+  -- ---- the flag
+
+  lone-is : (f : Form) → formOf form ≡ Is f → loneStep form text at ≡ within-limit text (Refused 12 0 0) (stepAt f text at)
+  unfolding loneStep
+  lone-is f q = sym (a-form _ _ _ _ _ q refl)
+
+  -- It holds exactly where the octets read are the element's canonical spelling.
+  pub lone-flag : (f : Form) → formOf form ≡ Is f → (e : Element) (next : ℕ) (b : Bool) → ReadElementPromise form text at (Read e next b)
+      → (b ≡ true) ↔ CanonicalElement f (take (next - at) (drop at text)) e
+  lone-flag f q e next b promise = go (leb (length text) limit) (promise .0 ∙ lone-is f q)
+    where
+      go : (t : Bool) → Read e next b ≡ pick t (stepAt f text at) (Refused 12 0 0)
+          → (b ≡ true) ↔ CanonicalElement f (take (next - at) (drop at text)) e
+      go true z = flag-exactly f text at e next b (step-kept f text at (Read e next b) z)
+      go false z = let w : _≡_ {A = ℕ} 0 1 = cc in absurd (omega arith)
+
   -- ---- into words
 
   module _ (words : List ℕ) where
@@ -112,14 +130,6 @@ module _ (form : ℕ) (text : List ℕ) (at : ℕ) where
 
     -- ---- the ways out of the code
 
-    -- with no fifth number
-    none-carried : (a : Answer) → carrying a 0 ≡ reading a 0
-    none-carried a = go (eqb (a .number) 0)
-      where
-        go : (t : Bool) → _≡_ {A = ReadAnswer} (reading a (pick t 0 0)) (reading a 0)
-        go true = refl
-        go false = refl
-
     -- what is no element is answered as it is, and has no words
     other-by : (s : Step) → OneOf (1 ∷ 2 ∷ []) (tagOf the-type s) → {r : ReadAnswer} {a : Answer} → a ≡ stepAnswerAfter 0 s
         → r ≡ carrying a 0 → (r ≡ fitsOr s (length words) (stepReading s) (carrying (shortRoom (length (stepWords s))) 0))
@@ -127,10 +137,10 @@ module _ (form : ℕ) (text : List ℕ) (at : ℕ) where
     other-by (Read e next b) o q z = absurd (⊎-elim (λ y. omega arith) (λ y. omega arith) o)
     other-by (Refused m p d) o {a = a} q z =
         let t = le-leb 0 (length words) (omega arith) in
-        (z ∙ none-carried a ∙ ap (λ (x : Answer). reading x 0) q ∙ sym (rw t), sym (rw t))
+        (z ∙ carrying-zero a ∙ ap (λ (x : Answer). reading x 0) q ∙ sym (rw t), sym (rw t))
     other-by End o {a = a} q z =
         let t = le-leb 0 (length words) (omega arith) in
-        (z ∙ none-carried a ∙ ap (λ (x : Answer). reading x 0) q ∙ sym (rw t), sym (rw t))
+        (z ∙ carrying-zero a ∙ ap (λ (x : Answer). reading x 0) q ∙ sym (rw t), sym (rw t))
 
     pub one-other : {r : ReadAnswer} {a : Answer} (s : Step) → s ≡ loneStep form text at → OneOf (1 ∷ 2 ∷ []) (tagOf the-type s)
         → a ≡ stepAnswerAfter 0 s → r ≡ carrying a 0 → ReadOnePromise form text at words r words

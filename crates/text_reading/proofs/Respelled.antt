@@ -2,7 +2,7 @@
 -- and when it is 0.
 -- Assumes nothing.
 use Prim.Native.Nat.{ℕ, _+_, _≤_}
-use mathlib.Core.Path.{_≡_, refl, sym, ap, ap₂, _∙_}
+use mathlib.Core.Path.{_≡_, refl, sym, ap, _∙_}
 use native.Mathlib.Omega.{arith}
 use mathlib.Core.Logic.{_↔_}
 use mathlib.Core.List.{List, _++_}
@@ -112,13 +112,3 @@ reading-few form f q text h {r} is {es} run =
     let z : r .answer .number ≡ 0 = ap (λ (a : Answer). a .number) four in
     let n : r .answer .element ≡ length es = ap (λ (a : Answer). a .element) four in
     (z, n, omega (arith, reading-carries form text (length text) is f q z, respelled-few f text es x, n))
-
--- It adds up over joined texts.
-pub joined-readings : (form : ℕ) (f : Form) → formOf form ≡ Is f → (s t : List ℕ) → (i j k : ℕ) {r₁ r₂ r : ReadAnswer}
-    → r₁ ≡ readReading form s i → r₂ ≡ readReading form t j → r ≡ readReading form (s ++ t) k
-    → r₁ .answer .number ≡ 0 → r₂ .answer .number ≡ 0 → r .answer .number ≡ 0 → {es : List Element} → RunOf (Spells f) s es
-    → r .respelled ≡ r₁ .respelled + r₂ .respelled
-joined-readings form f q s t i j k is₁ is₂ is z₁ z₂ z {es} run =
-    reading-carries form (s ++ t) k is f q z
-    ∙ respelled-joined f s t es run
-    ∙ ap₂ _+_ (sym (reading-carries form s i is₁ f q z₁)) (sym (reading-carries form t j is₂ f q z₂))

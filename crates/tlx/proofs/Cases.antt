@@ -40,8 +40,8 @@ use Rattle.tlx.specs.declared.Page.the-variants.{Is as IsPage, NoPage}
 use Rattle.tlx.specs.CaseReadingNumbers.{AllSpelt, none, more, Faulty, AcceptedCase, RefusedCase, of-case, of-page, CaseTable}
 use Rattle.tlx.specs.CaseReadingNumbers.{Size, CaseTells, beside}
 use Rattle.tlx.specs.CaseReading.{CaseOutcome, all, fault, joinPages, afterPage, readPage, readPages, readCase}
-use Rattle.tlx.specs.CaseReading.{readCaseAnswer, caseRespelled, carryingCase, readCaseReading, readCaseWords, aloneReading, pageAnswer}
-use Rattle.tlx.specs.CaseReading.{outcomeOf, caseAnswer, pageWords}
+use Rattle.tlx.specs.CaseReading.{readCaseAnswer, caseRespelled, carryingCase, readCaseReading, readCaseWords, pageAnswer}
+use Rattle.tlx.specs.CaseReading.{outcomeOf, caseAnswer, pageWords, aloneReading}
 use Rattle.tlx.specs.Promises.{ReadCasePromise}
 use Rattle.tlx.proofs.Pages.{join-none, join-join, page-read, withoutFifth, carried-none}
 use Rattle.tlx.proofs.PageNumbers.{case-has, has-case}
@@ -279,7 +279,7 @@ row-tells (CaseTable.refused {g} {r} {n} {p} {d} i) =
     record {
       is-0 = λ e. absurd (omega (arith, z .0));
       is-9 = λ e. absurd (z .1 e);
-      is-other = λ x y. (d, i, refl);
+      is-other = λ x y. (d, i, refl, refl);
       not-10 = z .2;
       not-12 = z .3;
       kept = λ x. refl;

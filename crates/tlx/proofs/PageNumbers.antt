@@ -1,12 +1,12 @@
 -- How many elements of some pages are not canonical (document 02, No. 5): the pages' numbers, added, each over the run that its page is and
 -- canonical spelling.
 -- Assumes nothing.
-use Prim.Native.Nat.{ℕ, _+_, _≤_}
+use Prim.Native.Nat.{ℕ, suc, _+_, _≤_, _<_}
 use mathlib.Core.Path.{_≡_, refl, sym, ap, ap₂, subst, _∙_}
 use mathlib.Core.List.{List, [], _∷_, _++_}
 use native.Mathlib.Nat.{add-assoc, zero-add}
 use native.Mathlib.Omega.{arith}
-use lib.ListN.{length, length-append}
+use lib.ListN.{length, getD, length-append}
 use Rattle.sorts.specs.declared.Form.{Form}
 use Rattle.sorts.specs.declared.FormFound.the-variants.{Is}
 use Rattle.sorts.specs.Forms.{formOf}
@@ -14,7 +14,7 @@ use Rattle.element_words.specs.declared.Element.{Element}
 use Rattle.text_loops.specs.Fronts.{respelledBefore}
 use Rattle.text_reading.proofs.ReadTexts.{accepted-exactly}
 use Rattle.text_reading.proofs.Respelled.{respelled-is, respelled-exactly, respelled-few}
-use Rattle.case_table.specs.Layout.{ofForm}
+use Rattle.case_table.specs.Layout.{total, ofForm}
 use Rattle.case_table.specs.Grammar.{CaseOf}
 use Rattle.case_table.proofs.Laid.{case-header, case-pages}
 use Rattle.tlx.specs.CaseReadingNumbers.{AllSpelt, none, more, AcceptedCase, PagesApart}
@@ -29,7 +29,7 @@ module _ (form : ℕ) (f : Form) (is-form : formOf form ≡ Is f) where
   unfolding pagesRespelled
   number-more page pages = ap (λ (k : ℕ). k + number pages) (respelled-is form f is-form page)
 
-  -- It adds up over the pages of two cases of one form.
+  -- It adds up over two lists of pages.
   pub pages-joined : (pages others : List (List ℕ)) → number (pages ++ others) ≡ number pages + number others
   unfolding pagesRespelled
   pages-joined [] others = sym (zero-add (number others))
@@ -53,6 +53,17 @@ module _ (form : ℕ) (f : Form) (is-form : formOf form ≡ Is f) where
   have-pages PagesApart.none = refl
   have-pages (PagesApart.more {page} {pages} {k = k} r a s) =
       number-more page pages ∙ ap₂ _+_ (respelled-exactly f r k .1 a) (have-pages s)
+
+  -- numbers that are each a page's, as many as there are pages, added
+  pub pages-sum : (pages : List (List ℕ)) (numbers : List ℕ) → length numbers ≡ length pages
+      → ((k : ℕ) → k < length pages → getD numbers k 0 ≡ respelledBefore f (getD pages k [])) → number pages ≡ total numbers
+  unfolding pagesRespelled total
+  pages-sum [] [] e each = refl
+  pages-sum [] (n ∷ numbers) e each = absurd (omega (arith, e))
+  pages-sum (page ∷ pages) [] e each = absurd (omega (arith, e))
+  pages-sum (page ∷ pages) (n ∷ numbers) e each =
+      number-more page pages
+      ∙ ap₂ _+_ (sym (each 0 (omega arith))) (pages-sum pages numbers (omega (arith, e)) (λ k h. each (suc k) (omega arith)))
 
   -- no more than elements
   pub pages-few : {pages : List (List ℕ)} {es : List Element} → AllSpelt f pages es → number pages ≤ length es

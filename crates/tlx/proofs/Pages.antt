@@ -6,13 +6,12 @@ use mathlib.Core.List.{List, [], _++_, append-assoc, append-nil}
 use native.Mathlib.Nat.{zero-add, add-zero, add-assoc}
 use native.Mathlib.Omega.{arith}
 use lib.ListN.{length, drop, length-append, drop-of-length-le}
-use borrow.Author.Tests.{ne-eqb}
 use Rattle.run.specs.Loops.{Numbered}
 use Rattle.run.specs.Head.{Outcome, accepted, refusal}
 use Rattle.run.specs.declared.Answer.{Answer}
 use Rattle.run.specs.declared.ReadAnswer.{ReadAnswer}
 use Rattle.run.specs.Answers.{answer, given, roomyAnswer}
-use Rattle.run.proofs.Answers.{given-length, accepted-carries}
+use Rattle.run.proofs.Answers.{given-length, accepted-carries, carrying-none}
 use Rattle.run.proofs.Loops.{run-few}
 use Rattle.run.proofs.Rooms.{numbered}
 use Rattle.sorts.specs.declared.Form.{Form}
@@ -33,7 +32,7 @@ use Rattle.case_table.specs.PagePlaces.{Right, totalBefore, between}
 use Rattle.case_table.proofs.PagePlaces.{right-header, pages-counted, start-next, page-inside, between-length, page-next}
 use Rattle.tlx.specs.declared.CaseAnswer.{CaseAnswer}
 use Rattle.tlx.specs.CaseReading.{CaseOutcome, all, fault, joinPages, afterPage, readPage, readPages, readCase, aloneAnswer}
-use Rattle.tlx.specs.CaseReading.{aloneReading, caseMeasured, pagesRespelled, caseRespelled, carryingCase}
+use Rattle.tlx.specs.CaseReading.{aloneReading, caseMeasured, pagesRespelled, caseRespelled, withPage, carryingCase}
 use Rattle.tlx.specs.CaseReadingNumbers.{beside}
 
 -- ---- one page
@@ -163,10 +162,7 @@ withoutFifth a = beside (a .page) (a .answer)
 
 -- a refusal carries 0
 pub carried-none : (a b : CaseAnswer) (k : ℕ) → withoutFifth a ≡ b → (a .answer .number ≡ 0 → ⊥) → withoutFifth a ≡ carryingCase b k
-carried-none a b k q n =
-    let z = ne-eqb (a .answer .number) 0 n in
-    let none : _≡_ {A = CaseAnswer} (withoutFifth a) (carryingCase (withoutFifth a) k) = sym (rw z) in
-    none ∙ ap (λ (x : CaseAnswer). carryingCase x k) q
+carried-none a b k q n = ap (withPage (a .page)) (carrying-none (a .answer) k n) ∙ ap (λ (x : CaseAnswer). carryingCase x k) q
 
 -- ---- measuring
 

@@ -3,16 +3,14 @@
 -- Assumes nothing.
 use Prim.Native.Nat.{ℕ, _≤_, _<_}
 use mathlib.Core.Path.{_≡_, refl, sym, ap, ap₂, _∙_}
-use mathlib.Core.Bool.{Bool, true, false}
 use mathlib.Core.List.{List, [], _∷_}
 use native.Mathlib.Omega.{arith}
-use lib.Dec.{eqb, leb}
+use lib.Dec.{leb}
 use lib.ListN.{length}
 use Rattle.run.specs.Loops.{Numbered}
 use Rattle.run.specs.Head.{Outcome, accepted, refusal}
 use Rattle.run.specs.declared.Answer.{Answer}
 use Rattle.run.specs.Answers.{answer, bare, shortRoom, countOf, roomFor, writtenOf}
-use Rattle.run.specs.Choice.{pick}
 use Rattle.run.proofs.Choices.{pick-case}
 use Rattle.run.proofs.Rooms as rooms
 use Rattle.sorts.specs.declared.FormFound.{FormFound}
@@ -22,6 +20,8 @@ use Rattle.element_words.specs.Words.{wordsOf}
 use Rattle.element_words.specs.declared.Element.{Element}
 use Rattle.case_table.specs.declared.Header.the-variants.{Refused, Pages}
 use Rattle.case_table.specs.Check.{headerOf, pagesOf}
+use Rattle.case_table.proofs.Checked.{turned-exactly}
+use Rattle.case_table.proofs.Promised.{turned-number}
 use Rattle.tlx.specs.declared.CaseAnswer.{CaseAnswer}
 use Rattle.tlx.specs.CaseReading.{CaseOutcome, all, fault, joinPages, afterPage, readPage, readPages, readCase, turned}
 use Rattle.tlx.specs.CaseReading.{outcomeOf, pageOf, caseAnswer, caseMeasured, readCaseAnswer, readCaseWords, caseRespelled}
@@ -137,17 +137,9 @@ turned-answers case r l q =
     )
 
 -- with the fifth number, which is 0
-none-carried : (a : CaseAnswer) → withoutFifth a ≡ carryingCase (withoutFifth a) 0
-none-carried a = go (eqb (a .answer .number) 0)
-  where
-    go : (t : Bool) → _≡_ {A = CaseAnswer} (withoutFifth a) (record { answer = a .answer; respelled = pick t 0 0; page = a .page })
-    go true = refl
-    go false = refl
-
 pub turned-readings : (case : List ℕ) (r : ℕ) (l : List ℕ) → headerOf case ≡ Refused r
     → (_≡_ {A = CaseAnswer} (beside 0 (bare r)) (readCaseReading case (length l))) × (l ≡ readCaseWords case l)
-unfolding caseRespelled
 turned-readings case r l q =
     let t = turned-answers case r l q in
-    let k : caseRespelled case ≡ 0 = simp q in
-    (none-carried (beside 0 (bare r)) ∙ ap₂ carryingCase (t .0) (sym k), t .1)
+    let n = turned-number (turned-exactly case r .0 q) .0 in
+    (carried-none (beside 0 (bare r)) _ _ (t .0) (λ z. omega (arith, n, z)), t .1)

@@ -1,9 +1,10 @@
--- Proved equal to CaseReadingNumbers: what reading a case comes to, its answer with the fifth number, and what the lent words hold after
--- (proofs/Cases: case-exactly); one page's answer (proofs/EachPage: page-row, of-page-row). A part of the code: `caseMeasured`.
+-- Proved equal to CaseReadingNumbers: what reading a case comes to, its answer with the fifth number (`readCaseReading`), and what the lent
+-- words hold after (proofs/Cases: case-exactly); one page's answer (proofs/EachPage: page-row, of-page-row). The answer is made in two
+-- steps: `readCaseAnswer` has the four numbers and the page, and 0 as the fifth. A part of the code: `caseMeasured`.
 -- Assumes nothing.
 use Prim.Native.Nat.{ℕ, _+_}
 use mathlib.Core.List.{List, [], _∷_, _++_}
-use lib.Dec.{eqb, ltb}
+use lib.Dec.{ltb}
 use lib.ListN.{length, getD}
 use Rattle.run.specs.Choice.{pick}
 use Rattle.run.specs.Head.{Outcome, accepted, refusal}
@@ -75,8 +76,8 @@ abbrev pub pageOf : CaseOutcome → ℕ
 pageOf (all es) = 0
 pageOf (fault page r n p d) = page
 
--- "An accepted case answers 0, all elements, its length, and the count of its pages' words"; 9 where the room is short; `carryingCase` puts
--- the fifth number in
+-- "An accepted case answers 0, all elements, its length, and the count of its pages' words"; 9 where the room is short; the fifth number is
+-- not in it yet, `carryingCase` puts it in
 abbrev pub caseAnswer : ℕ → ℕ → CaseOutcome → CaseAnswer
 caseAnswer size room x = beside (pageOf x) (answerOf wordsOf size room (outcomeOf x))
 
@@ -92,8 +93,12 @@ pagesRespelled (page ∷ pages) = respelledIn (page .0) (page .1) + pagesRespell
 unfoldable pub caseRespelled : List ℕ → ℕ
 caseRespelled case = byHeader (headerOf case) (λ r. 0) (λ form n. pagesRespelled (pagesOf case))
 
+-- the five numbers and the page
+abbrev pub withPage : ℕ → ReadAnswer → CaseAnswer
+withPage page r = record { answer = r .answer; respelled = r .respelled; page = page }
+
 abbrev pub carryingCase : CaseAnswer → ℕ → CaseAnswer
-carryingCase a k = record { answer = a .answer; respelled = pick (eqb (a .answer .number) 0) k 0; page = a .page }
+carryingCase a k = withPage (a .page) (carrying (a .answer) k)
 
 abbrev pub readCaseReading : List ℕ → ℕ → CaseAnswer
 readCaseReading case room = carryingCase (readCaseAnswer case room) (caseRespelled case)

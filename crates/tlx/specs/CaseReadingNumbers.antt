@@ -68,7 +68,7 @@ pub data PagesApart (f : Form) : List (List ℕ) → ℕ → Type 0 where
   more : {page : List ℕ} {pages ps : List (List ℕ)} {es : List Element} {k j : ℕ} → Run (Spells f) page ps es
       → Apart (CanonicalElement f) ps es k → PagesApart f pages j → PagesApart f (page ∷ pages) (k + j)
 
--- a refusal, which carries 0, and the page beside it
+-- four numbers and the page beside them, as a refusal has them, whose fifth is 0
 abbrev pub beside : ℕ → Answer → CaseAnswer
 beside page a = record { answer = a; respelled = 0; page = page }
 
@@ -95,7 +95,7 @@ pub record CaseTells (case words : List ℕ) (a : CaseAnswer) (after : List ℕ)
       → (es : List Element) × AcceptedCase case es × (length words < Size es) × (a ≡ beside 0 (shortRoom (Size es)))
   pub is-other : (a .answer .number ≡ 0 → ⊥) → (a .answer .number ≡ 9 → ⊥)
       → (d : ℕ) × RefusedCase case (a .page) (a .answer .number) (a .answer .element) (a .answer .place) d
-      × (a .answer .count ≡ countOf (a .answer .number) d)
+      × (a .answer .count ≡ countOf (a .answer .number) d) × (a .respelled ≡ 0)
   pub not-10 : a .answer .number ≡ 10 → ⊥
   pub not-12 : a .answer .number ≡ 12 → ⊥
   pub kept : (a .answer .number ≡ 0 → ⊥) → after ≡ words

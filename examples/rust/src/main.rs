@@ -2,9 +2,9 @@
 //!
 //!     convert SOURCE TARGET FILE OUTPUT
 //!
-//! SOURCE and TARGET are 1 (T51String in eight bits), 2 (in seven bits) or 3 (basic T.61). One line says how many elements were respelled:
-//! those that did not stand in SOURCE's canonical spelling. Exit status: 0, converted; 1, the text is refused, and the message names the
-//! octet and its place, except for 11 and 12, which are about none; 2, anything else. OUTPUT is written only where the text is converted.
+//! SOURCE and TARGET are 1 (T51String in eight bits), 2 (in seven bits) or 3 (basic T.61). One line says how many elements did not
+//! stand in SOURCE's canonical spelling. Exit status: 0, converted; 1, the text is refused, and the message names the octet and its place,
+//! except for 11 and 12, which are about none; 2, anything else. OUTPUT is written only where the text is converted.
 
 use std::fs;
 use std::io::{self, Write};
@@ -15,7 +15,7 @@ use oakentwirl::{Error, Form};
 const USAGE: &str = "usage: convert SOURCE TARGET FILE OUTPUT";
 const NO_FORM: &str = "refused with 11: a form is not 1, 2 or 3";
 
-/// Why the program ends without an output, and its exit status.
+/// Why the program fails, and its exit status.
 struct Failure(String, u8);
 
 fn form(said: &str) -> Result<Form, Failure> {
@@ -52,7 +52,8 @@ fn run(arguments: &[String]) -> Result<(), Failure> {
         .map_err(|error| refused(error, &text))?;
     fs::write(output, converted.text)
         .map_err(|_| Failure(format!("{output}: cannot be written"), 2))?;
-    writeln!(io::stdout(), "{} elements respelled", converted.respelled)
+    let number = converted.respelled;
+    writeln!(io::stdout(), "elements that were not canonical in form {source}: {number}")
         .map_err(|_| Failure("the number: cannot be written".into(), 2))
 }
 
