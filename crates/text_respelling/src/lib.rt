@@ -181,7 +181,7 @@ fn measure_convert(
                 n += 1;
                 count += spelling_tables::packed_size(p);
             } else {
-                let step = element_reading::element_at(source, text, at);
+                let step = element_reading::element_at(source, text, at); // read, and counted, in the source's form
                 let Step::Element(e, next, canonical) = step else {
                     return run::reading_of(text_loops::step_answer(step, n), 0);
                 };
