@@ -58,18 +58,18 @@ pub record Untouched (c : Carry) (words : List ℕ) (fed : Fed) (after : List �
   pub handed : fed .handed ≡ 0
   pub buffer : after ≡ words
 
--- a fifth number that an answer can carry
-record Carries (a : Answer) (k : ℕ) : Type 0 where
+-- a fifth number that an answer could carry
+record CouldCarry (a : Answer) (k : ℕ) : Type 0 where
   pub at-most : k ≤ a .element
   pub refused : (a .number ≡ 0 → ⊥) → k ≡ 0
 
-none-carried : (a : Answer) → Carries a 0
-none-carried a = record { at-most = omega arith; refused = λ n. refl }
+could-carry-none : (a : Answer) → CouldCarry a 0
+could-carry-none a = record { at-most = omega arith; refused = λ n. refl }
 
-could-carry : (a : Answer) (k : ℕ) → couldCarry a k ≡ true → Carries a k
+could-carry : (a : Answer) (k : ℕ) → couldCarry a k ≡ true → CouldCarry a k
 could-carry a k could = by-number (eqb (a .number) 0) refl could
   where
-    by-number : (t : Bool) → eqb (a .number) 0 ≡ t → pick t (leb k (a .element)) (eqb k 0) ≡ true → Carries a k
+    by-number : (t : Bool) → eqb (a .number) 0 ≡ t → pick t (leb k (a .element)) (eqb k 0) ≡ true → CouldCarry a k
     by-number true e q = record { at-most = leb-true _ _ q; refused = λ n. absurd (n (eqb-true _ 0 e)) }
     by-number false e q = record { at-most = omega (arith, eqb-true k 0 q); refused = λ n. eqb-true k 0 q }
 
@@ -88,7 +88,7 @@ module _ (c : Carry) (piece : List ℕ) (ended : Bool) (words : List ℕ) where
     pub refused : (fed .answer .number ≡ 0 → ⊥) → fed .respelled ≡ 0
 
   -- the carry as it was
-  kept-leaves : (a : Answer) (k : ℕ) → Carries a k → (length piece + 39 ≤ length words → a .number ≡ 9 → ⊥)
+  kept-leaves : (a : Answer) (k : ℕ) → CouldCarry a k → (length piece + 39 ≤ length words → a .number ≡ 9 → ⊥)
       → Leaves (unmoved c (reading a k)) words
   kept-leaves a k carried enough =
       let same : Untouched c words (unmoved c (reading a k)) words = record { carry = refl; handed = refl; buffer = refl } in
@@ -107,7 +107,7 @@ module _ (c : Carry) (piece : List ℕ) (ended : Bool) (words : List ℕ) where
   not-nine a could e = let w : _≡_ {A = Bool} false true = rw e at could in let z : _≡_ {A = ℕ} 0 1 = cc in omega arith
 
   -- words handed out
-  handed-leaves : (fed : Fed) (ws : List ℕ) → fed .handed ≡ length ws → fed .answer .number ≤ 8 → Carries (fed .answer) (fed .respelled)
+  handed-leaves : (fed : Fed) (ws : List ℕ) → fed .handed ≡ length ws → fed .answer .number ≤ 8 → CouldCarry (fed .answer) (fed .respelled)
       → Leaves fed (over words ws)
   handed-leaves fed ws e small carried =
       record {
@@ -121,16 +121,16 @@ module _ (c : Carry) (piece : List ℕ) (ended : Bool) (words : List ℕ) where
       }
 
   -- the fifth number so far
-  read-carries : {m : Measured} {size : ℕ} → c .respelled ≤ c .answer .element → Modest m size
-      → Carries (soFar (c .answer) (length piece) m) (respelledSoFar c m)
-  read-carries few small = record { at-most = omega (arith, few, small .respelled); refused = λ n. absurd (n refl) }
+  could-carry-read : {m : Measured} {size : ℕ} → c .respelled ≤ c .answer .element → Modest m size
+      → CouldCarry (soFar (c .answer) (length piece) m) (respelledSoFar c m)
+  could-carry-read few small = record { at-most = omega (arith, few, small .respelled); refused = λ n. absurd (n refl) }
 
   -- what was read, and fits
   read-leaves : {m : Measured} (s ws : List ℕ) → c .respelled ≤ c .answer .element → Modest m (length s) → m .words ≡ length ws
       → (t u : Bool) → Leaves (pick t (faultedBy c m) (pick u (endedBy c (length piece) m) (waitsBy c (length piece) s m))) (over words ws)
-  read-leaves s ws few small e true u = handed-leaves _ ws e (small .number) (none-carried _)
-  read-leaves s ws few small e false true = handed-leaves _ ws e (omega arith) (read-carries few small)
-  read-leaves s ws few small e false false = handed-leaves _ ws e (omega arith) (read-carries few small)
+  read-leaves s ws few small e true u = handed-leaves _ ws e (small .number) (could-carry-none _)
+  read-leaves s ws few small e false true = handed-leaves _ ws e (omega arith) (could-carry-read few small)
+  read-leaves s ws few small e false false = handed-leaves _ ws e (omega arith) (could-carry-read few small)
 
   module _ (f : Form) where
     abbrev m : Measured
@@ -149,7 +149,7 @@ module _ (c : Carry) (piece : List ℕ) (ended : Bool) (words : List ℕ) where
         let most : m .words ≤ 39 + length piece =
         omega (arith, few-words, length-append (waiting c) piece, length-take (c .holds) (c .held), go .few) in
         subst₂ Leaves (sym (simp e)) (sym (simp e))
-        (kept-leaves (shortRoom (m .words)) 0 (none-carried _) (λ r n. omega (arith, r, short, most)))
+        (kept-leaves (shortRoom (m .words)) 0 (could-carry-none _) (λ r n. omega (arith, r, short, most)))
 
     by-limit : CouldGo f c → (t : Bool)
         → Leaves (pick t (fedIn f c piece ended (length words)) (stoppedBy (c .form) (bare 12) 0 0))
@@ -174,7 +174,7 @@ module _ (c : Carry) (piece : List ℕ) (ended : Bool) (words : List ℕ) where
         and-true (couldCarry (c .answer) (c .respelled)) (couldEnd (c .answer)) (e2 .1)
 
     nobodys : Leaves (keptBy c (bare 11)) words
-    nobodys = kept-leaves (bare 11) 0 (none-carried _) (λ r e. omega (arith, e))
+    nobodys = kept-leaves (bare 11) 0 (could-carry-none _) (λ r e. omega (arith, e))
 
     by-carry : (t g : Bool) → couldGo f c ≡ g → (u : Bool) → couldStop c ≡ u
         → Leaves
@@ -195,7 +195,7 @@ module _ (c : Carry) (piece : List ℕ) (ended : Bool) (words : List ℕ) where
       (unlessPast c piece (stoppedBy (c .form) (bare 12) 0 0) (fedIn f c piece ended (length words)))))
       (inForm y words (λ f. byCarry f c words words (unlessPast c piece words (wordsIn f c piece words))))
   by-form (Is f) = by-carry f (eqb (c .stopped) 0) (couldGo f c) refl (couldStop c) refl
-  by-form Nothing = kept-leaves (bare 11) 0 (none-carried _) (λ r e. omega (arith, e))
+  by-form Nothing = kept-leaves (bare 11) 0 (could-carry-none _) (λ r e. omega (arith, e))
 
   leaves : Leaves (feedAnswer c piece ended (length words)) (feedWords c piece words)
   unfolding feedAnswer feedWords
