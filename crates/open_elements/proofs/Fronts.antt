@@ -11,13 +11,10 @@ use Rattle.run.specs.Head.{Outcome, accepted, refusal, refused}
 use Rattle.run.specs.Grammar.{Stopped}
 use Rattle.run.specs.Before.{Standing, whats}
 use Rattle.run.specs.Answers.{answer, given}
-use Rattle.run.proofs.Outcomes as outcomes
 use Rattle.run.proofs.Before.{given-before, before-fault, standing-whats}
-use Rattle.run.proofs.Tallies.{tally-joined, tally-few}
 use Rattle.sorts.specs.declared.Form.{Form}
 use Rattle.element_words.specs.declared.Element.{Element}
 use Rattle.element_words.specs.Words.{wordsOf}
-use Rattle.element_spelling.specs.ElementOctets.{isCanonical}
 use Rattle.element_reading.specs.ElementHead.{headIn}
 use Rattle.element_reading.specs.Grammar.{Spells}
 use Rattle.element_reading.proofs.Reader.{reads, refuses-exactly-by}
@@ -25,7 +22,8 @@ use Rattle.text_loops.specs.declared.Measured.{Measured}
 use Rattle.text_loops.specs.Fronts.{readIn, measured, wordsBefore, respelledBefore}
 use Rattle.text_loops.proofs.Tallied.{tally-start, tally-stop}
 use Rattle.text_reading.specs.ReadingNumbers.{ReadingFault}
-use Rattle.text_reading.proofs.ReadTexts.{refused-exactly}
+use Rattle.text_reading.proofs.ReadTexts.{accepted-exactly, refused-exactly}
+use Rattle.text_reading.proofs.Respelled.{respelled-joined, respelled-few}
 use Rattle.open_elements.proofs.Faults.{fault-small, run-small}
 
 module _ (f : Form) (s : List ℕ) where
@@ -83,9 +81,8 @@ head-respelled f s q = sym (tally-stop f s (tally-start f s) q)
 pub fault-respelled : {f : Form} {s : List ℕ} {r n p d : ℕ} (at : ReadingFault f s r n p d)
     → respelledBefore f s ≡ respelledBefore f (at .front)
 fault-respelled {f} {s} {r} at =
-    let q = outcomes.accepts (reads f) (at .front) (at .elements) .1 (at .run) in
     let none = head-respelled f (at .rest) (refuses-exactly-by f (at .rest) r (at .behind) .1 (at .here)) in
-    let both = ap (respelledBefore f) (at .whole) ∙ tally-joined (isCanonical f) (reads f) (at .front) (at .rest) (at .elements) q in
+    let both = ap (respelledBefore f) (at .whole) ∙ respelled-joined f (at .front) (at .rest) (at .elements) (at .run) in
     omega (arith, both, none)
 
 -- ---- what was read, its numbers: no more elements and words than octets, and no more that were not canonical than elements; a refusal is
@@ -105,7 +102,7 @@ modest f s = go (readIn f s) refl
   where
     go : (x : Outcome Element) → readIn f s ≡ x → Modest (measured f s) (length s)
     go (accepted fs) q =
-        let r = run-small (outcomes.accepts (reads f) s fs .0 q) in
+        let r = run-small (accepted-exactly f s fs .0 q) in
         subst (λ (m : Measured). Modest m (length s)) (sym (accepted-measured f s fs q .0))
         (record {
           number = omega arith;
@@ -114,7 +111,7 @@ modest f s = go (readIn f s) refl
           place = omega arith;
           onward = λ z. absurd (omega arith);
           inside = r .1;
-          respelled = tally-few (isCanonical f) (reads f) s fs q;
+          respelled = respelled-few f s fs q;
         })
     go (refusal r n p d) q =
         let z = refused-read f s r n p d q in
@@ -122,8 +119,7 @@ modest f s = go (readIn f s) refl
         let w = run-small (z .fault .run) in
         let l : length s ≡ length (z .fault .front) + length (z .fault .rest) =
         ap length (z .fault .whole) ∙ length-append (z .fault .front) (z .fault .rest) in
-        let few = tally-few (isCanonical f) (reads f) (z .fault .front) (z .fault .elements)
-        (outcomes.accepts (reads f) (z .fault .front) (z .fault .elements) .1 (z .fault .run)) in
+        let few = respelled-few f _ _ (accepted-exactly f (z .fault .front) (z .fault .elements) .1 (z .fault .run)) in
         subst (λ (m : Measured). Modest m (length s)) (sym (refused-measured f s q z))
         (record {
           number = k .number;

@@ -22,11 +22,9 @@ use Rattle.run.specs.Put.{Put, whatFits}
 use Rattle.run.proofs.Outcomes as outcomes
 use Rattle.run.proofs.Before.{given-before}
 use Rattle.run.proofs.Puts.{all-fit, none-fits, put-before}
-use Rattle.run.proofs.Tallies.{tally-joined}
 use Rattle.sorts.specs.declared.Form.{Form}
 use Rattle.element_words.specs.declared.Element.{Element}
 use Rattle.element_words.specs.Words.{wordsOf}
-use Rattle.element_spelling.specs.ElementOctets.{isCanonical}
 use Rattle.element_reading.specs.Grammar.{Spells, Refuses, Cut-short}
 use Rattle.element_reading.specs.declared.Step.{Step}
 use Rattle.element_reading.specs.declared.Step.the-variants.{Element as Read}
@@ -41,6 +39,7 @@ use Rattle.text_loops.specs.Fronts.{readIn, measured, wordsBefore, respelledBef
 use Rattle.text_loops.proofs.Tallied.{told-here, told-reads, tally-start, tally-turn, tally-end}
 use Rattle.text_loops.proofs.Steps.{step-refused, count-is-place}
 use Rattle.text_loops.specs.Promises.{ReadFrontPromise}
+use Rattle.text_reading.proofs.Respelled.{respelled-joined}
 use Rattle.open_elements.specs.OpenElements.{openHead, isOpen}
 use Rattle.open_elements.specs.Steps.{Gathered, behindOne, FrontOf}
 use Rattle.open_elements.specs.Promises.{ReadOnPromise}
@@ -197,9 +196,8 @@ behind-respelled f s {e} {b} {k} told =
     let alone : canonicalHead f p ≡ element (e, b) (length p) =
     ap (canonicalHead f) (sym (append-nil p)) ∙ told-reads f .finds p [] (e, b) (t .spells) in
     let one = tally-turn f p (tally-start f p) (record { size = length p; here = alone; onward = sym (zero-add (length p)) }) refl in
-    let q = outcomes.accepts (reads f) p (e ∷ []) .1 (one-run (t .spells .0)) in
     ap (respelledBefore f) (t .whole)
-    ∙ tally-joined (isCanonical f) (reads f) p (t .rest) (e ∷ []) q
+    ∙ respelled-joined f p (t .rest) (e ∷ []) (one-run (t .spells .0))
     ∙ ap₂ _+_ (sym (tally-end f p one (omega arith)) ∙ zero-add (pick b 0 1)) (ap (respelledBefore f) (sym left))
 
 given-none : given wordsOf [] ≡ []

@@ -16,19 +16,19 @@ use Rattle.run.specs.declared.Answer.{Answer}
 use Rattle.run.specs.Answers.{answer, bare, shortRoom, given, over}
 use Rattle.run.proofs.Outcomes as outcomes
 use Rattle.run.proofs.Answers.{given-append, given-length}
-use Rattle.run.proofs.Tallies.{tally-joined, tally-few}
 use Rattle.sorts.specs.declared.Form.{Form}
 use Rattle.sorts.specs.declared.FormFound.the-variants.{Is}
 use Rattle.sorts.specs.Forms.{formOf}
 use Rattle.element_words.specs.declared.Element.{Element}
 use Rattle.element_words.specs.Words.{wordsOf}
-use Rattle.element_spelling.specs.ElementOctets.{isCanonical}
 use Rattle.element_reading.specs.Grammar.{Spells, Refuses}
 use Rattle.element_reading.proofs.Reader.{reads, refuses-exactly-by}
 use Rattle.element_reading.proofs.Deciding.{unfinished}
 use Rattle.text_loops.specs.declared.Measured.{Measured}
 use Rattle.text_loops.specs.Fronts.{readIn, respelledBefore}
 use Rattle.text_reading.specs.ReadingNumbers.{limit, ReadingFault}
+use Rattle.text_reading.proofs.ReadTexts.{accepted-exactly}
+use Rattle.text_reading.proofs.Respelled.{respelled-joined, respelled-few}
 use Rattle.serial.specs.declared.Carry.{Carry}
 use Rattle.serial.specs.declared.Fed.{Fed}
 use Rattle.serial.specs.SerialNumbers.{UpToFault, WordsUpToFault, NewWords}
@@ -101,14 +101,10 @@ module _ {f : Form} {octets : List ℕ} {c : Carry} (h : Holds f octets c) where
   sizes : length octets ≡ length (h .front) + c .holds
   sizes = ap length (h .whole) ∙ length-append (h .front) (waiting c) ∙ ap (λ (k : ℕ). length (h .front) + k) (sym (h .size))
 
-  -- the elements are accepted by themselves
-  front-read : readIn f (h .front) ≡ accepted (h .es)
-  front-read = outcomes.accepts (reads f) (h .front) (h .es) .1 (h .run)
-
   pub could-go : couldGo f c ≡ true
   could-go =
       let small = run-small (h .run) in
-      let few = tally-few (isCanonical f) (reads f) (h .front) (h .es) front-read in
+      let few = respelled-few f (h .front) (h .es) (accepted-exactly f (h .front) (h .es) .1 (h .run)) in
       let t0 : leb (c .respelled) (length (h .es)) ≡ true = le-leb (c .respelled) (length (h .es)) (omega (arith, h .respelled, few)) in
       let t1 : leb (c .holds) 39 ≡ true = le-leb _ _ (h .few) in
       let t2 : leb (length octets) limit ≡ true = le-leb _ _ (h .within) in
@@ -194,7 +190,7 @@ module _ {f : Form} {octets : List ℕ} {c : Carry} (h : Holds f octets c) (piec
   respelled-now : (u : List ℕ) → respelledBefore f s ≡ respelledBefore f u
       → c .respelled + respelledBefore f s ≡ respelledBefore f (h .front ++ u)
   respelled-now u e =
-      ap₂ _+_ (h .respelled) e ∙ sym (tally-joined (isCanonical f) (reads f) (h .front) u (h .es) (front-read h))
+      ap₂ _+_ (h .respelled) e ∙ sym (respelled-joined f (h .front) u (h .es) (h .run))
 
   -- a fault's numbers
   fault-now : (r n p d : ℕ)
@@ -244,7 +240,7 @@ module _ {f : Form} {octets : List ℕ} {c : Carry} (h : Holds f octets c) (piec
     -- the octets are elements
     module _ (fs : List Element) (q : readIn f s ≡ accepted fs) where
       run-now : RunOf (Spells f) (h .front ++ s) (h .es ++ fs)
-      run-now = outcomes.run-append (h .run .1) (outcomes.accepts (reads f) s fs .0 q .1)
+      run-now = outcomes.run-append (h .run .1) (accepted-exactly f s fs .0 q .1)
 
       abbrev accepted-now : Measured
       accepted-now = read-as fs (answer 0 (length fs) (length s) (length (given wordsOf fs)))
