@@ -1,6 +1,8 @@
 -- The sequence reader's answer, taken apart: a sequence (sequence-whole), a refusal (sequence-stopped), the end (sequence-ended).
+use Prim.Native.Nat.{_≤_, _<_}
 use mathlib.Core.Path.{sym, _∙_}
 use native.Mathlib.Omega.{arith}
+use lib.ListN.{length}
 use Rattle.element_reading.proofs.Steps.{sequence-inside, sequence-whole, sequence-stopped, sequence-ended}
 use borrow.Author.Needs.{needs}
 use Rattle.element_reading.proofs.sequence_step.Statement.{statement}
@@ -12,39 +14,27 @@ read-sequence-requires c κs = search needs
 enum-known-reading : tie.Need-enum-known-reading
 enum-known-reading c = search needs
 
-head-word-requires : tie.Need-head-word-requires
-head-word-requires c κs =
-    let at-read-sequence = c .before .before .before in
-    sequence-inside _ _ _ _ _ _ _ (sym (at-read-sequence .read-sequence .ensures .0) ∙ c .before .reading .given .1) .0
+-- a sequence that was read has 8 values at most; it lies in the text, and has an octet at least
+inside : (c : tie.After-reading) →
+    let a = c .before .before .before .before .args in
+    let x = c .reading .given .0 .1 .1 in
+    (x .0 ≤ 8) × (a .at < x .1 .1 .0) × (x .1 .1 .0 ≤ length (a .text .now))
+inside c = sequence-inside _ _ _ _ _ _ _ (sym (c .before .before .read-sequence .ensures .0) ∙ c .reading .given .1)
 
--- the sequence lies in the text, and has an octet at least
+head-word-requires : tie.Need-head-word-requires
+head-word-requires c κs = inside (c .before) .0
+
 sub-sequence-is-canonical : tie.Need-sub-sequence-is-canonical
-sub-sequence-is-canonical c =
-    let at-reading = c .before .before in
-    let at-read-sequence = at-reading .before .before in
-    let inside = sequence-inside _ _ _ _ _ _ _ (sym (at-read-sequence .read-sequence .ensures .0) ∙ at-reading .reading .given .1) in
-    omega (arith, inside .1)
+sub-sequence-is-canonical c = omega (arith, inside (c .before .before) .1)
 
 sub-sequence-is-canonical-2 : tie.Need-sub-sequence-is-canonical-2
-sub-sequence-is-canonical-2 c =
-    let at-reading = c .before .before in
-    let at-read-sequence = at-reading .before .before in
-    let inside = sequence-inside _ _ _ _ _ _ _ (sym (at-read-sequence .read-sequence .ensures .0) ∙ at-reading .reading .given .1) in
-    omega (arith, inside .1)
+sub-sequence-is-canonical-2 c = omega (arith, inside (c .before .before) .1)
 
 part-sequence-is-canonical-start : tie.Need-part-sequence-is-canonical-start
-part-sequence-is-canonical-start c =
-    let at-reading = c .before .before in
-    let at-read-sequence = at-reading .before .before in
-    let inside = sequence-inside _ _ _ _ _ _ _ (sym (at-read-sequence .read-sequence .ensures .0) ∙ at-reading .reading .given .1) in
-    omega (arith, inside .1)
+part-sequence-is-canonical-start c = omega (arith, inside (c .before .before) .1)
 
 part-sequence-is-canonical-end : tie.Need-part-sequence-is-canonical-end
-part-sequence-is-canonical-end c =
-    let at-reading = c .before .before in
-    let at-read-sequence = at-reading .before .before in
-    let inside = sequence-inside _ _ _ _ _ _ _ (sym (at-read-sequence .read-sequence .ensures .0) ∙ at-reading .reading .given .1) in
-    omega (arith, inside .1, inside .2)
+part-sequence-is-canonical-end c = let i = inside (c .before .before) in omega (arith, i .1, i .2)
 
 sequence-is-canonical-requires : tie.Need-sequence-is-canonical-requires
 sequence-is-canonical-requires c κs = search needs
