@@ -21,16 +21,16 @@ use Rattle.run.proofs.Outcomes as outcomes
 use Rattle.run.proofs.Outcomes.{run-by}
 use Rattle.sorts.specs.declared.Form.{Form}
 use Rattle.element_words.specs.declared.Element.{Element}
-use Rattle.element_words.specs.Words.{wordsOf, Proper, Means, means}
+use Rattle.element_words.specs.Words.{wordsOf, Means, means}
 use Rattle.element_words.proofs.Words.{words-read}
 use Rattle.element_reading.specs.Grammar.{Spells}
 use Rattle.element_reading.proofs.Reader.{reads}
-use Rattle.element_spelling.specs.ElementOctets.{CanonicalElement, Held}
-use Rattle.element_spelling.proofs.Writer.{canonical-proper, one-spelling}
+use Rattle.element_spelling.specs.ElementOctets.{CanonicalElement}
+use Rattle.element_spelling.proofs.Writer.{one-spelling}
 use Rattle.text_loops.specs.Fronts.{respelledBefore}
 use Rattle.text_reading.specs.Promises.{MeasurePromise}
 use Rattle.text_reading.proofs.Respelled.{respelled-exactly, reading-carries, reading-few}
-use Rattle.element_reading.proofs.ReadBack.{canonical-spells, read-held}
+use Rattle.element_reading.proofs.ReadBack.{canonical-spells, read-proper}
 use Rattle.element_reading.proofs.Places.{reading-number}
 use Rattle.compare.specs.declared.Comparison.{Comparison}
 use Rattle.compare.specs.WhatChanged.{Otherwise, GoesOn, Differ, FirstDiffer, BothRun, FormAndLimit, CompareRow}
@@ -51,10 +51,7 @@ unfolding given
 words-run done = ([], done)
 words-run {f} (more {e = e} sp r) =
     let i = words-run r in
-    (wordsOf e ∷ i .0, more (means (proper (read-held f sp))) (i .1))
-  where
-    proper : Held f e → Proper e
-    proper (Held.held c) = canonical-proper f c
+    (wordsOf e ∷ i .0, more (means (read-proper f sp)) (i .1))
 
 -- what an equation of comparisons says of the part
 hands : {c d : Comparison} (first second : List ℕ) {part : List ℕ} {text place : ℕ} → c ≡ d → d .«tail_text» ≡ text

@@ -79,20 +79,24 @@ module _ (f : Form) where
       Held.held (CanonicalElement.sequence (sym (ap (sortIn f) (sequence-is f o k)) ∙ k)
       (canonical-exactly (spellSequence q) q .1 (fine, refl)))
 
+  -- so it is an element that some words are
+  pub read-proper : {p : List ℕ} {e : Element} → Spells f p e → Proper e
+  read-proper {e = e} h = proper (read-held h)
+    where
+      proper : Held f e → Proper e
+      proper (Held.held k) = canonical-proper f k
+
   -- An element's canonical spelling reads back as that element, whatever follows it.
   pub canonical-reads : (s t : List ℕ) (e : Element) → CanonicalElement f s e → headIn f (s ++ t) ≡ element e (length s)
   canonical-reads s t e c = reads f .finds s t e (canonical-spells c)
 
   -- ---- the test of a canonical spelling
 
-  held-proper : {e : Element} → Held f e → Proper e
-  held-proper (Held.held k) = canonical-proper f k
-
   -- octets that spell an element and pass the test are its canonical spelling
   pub says-canonical : {p : List ℕ} {e : Element} → Spells f p e → isCanonical f p e ≡ true → CanonicalElement f p e
   says-canonical {p} {e} h q =
       let some : p ≡ [] → ⊥ = λ z. omega (arith, reads f .some p e h, ap length z) in
-      canonical-test f p e (held-proper (read-held h)) some .0 q
+      canonical-test f p e (read-proper h) some .0 q
 
   -- The test decides which spellings are canonical.
   pub canonical-decides : Decides (isCanonical f) (Spells f) (CanonicalElement f)
