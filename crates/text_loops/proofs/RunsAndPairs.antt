@@ -14,7 +14,7 @@ use Rattle.run.specs.Loops.{Passed, Counted, Filled}
 use Rattle.run.specs.Choice.{pick}
 use Rattle.run.specs.Head.{element}
 use Rattle.run.specs.Grammar.{Run, done, more}
-use Rattle.run.specs.Tagged.{Tagged, tagHead, untagged}
+use Rattle.run.specs.Tagged.{Tagged, untagged}
 use Rattle.run.specs.Answers.{given, roomFor}
 use Rattle.run.specs.Put.{Put}
 use Rattle.run.proofs.Answers.{given-length}
@@ -39,7 +39,7 @@ use Rattle.text_loops.specs.RunsAndPairs.{spacingWords, pairWord}
 use Rattle.text_loops.specs.Fronts.{readIn}
 use Rattle.text_loops.specs.LawWords.{HereStands, Tallied, CountedBoth}
 use Rattle.text_loops.proofs.FewWords.{few-words}
-use Rattle.text_loops.proofs.Tallied.{canonicalOne, written-canonical, listed-canonical, tally-turn, tally-turns}
+use Rattle.text_loops.proofs.Tallied.{stands-told, canonicalOne, written-canonical, listed-canonical, tally-turn, tally-turns}
 
 -- ---- counting and writing a run: what the loops know at the i-th octet
 
@@ -291,13 +291,7 @@ module _ (f : Form) (text codes : List ℕ) (squares : List (List ℕ)) (tables 
       → HereStands (canonicalHead f (drop at text)) at (One x, true) (at + 2)
   pair-there at x e h =
       let q = e ∙ ap₂ (λ (t : List ℕ) (u : List (List ℕ)). pairWord t u (drop at text)) (tables .0) (tables .1) in
-      record {
-        size = 2;
-        here =
-            ap (tagHead (isCanonical f) (drop at text)) (pair-of at x e (λ z. omega arith))
-            ∙ ap (λ (b : Bool). element (One x, b) 2) (pair-told f (drop at text) x q h);
-        onward = refl;
-      }
+      stands-told f (drop at text) at (pair-of at x e (λ z. omega arith)) (pair-told f (drop at text) x q h)
 
   pub behind-pair : {at n count respelled : ℕ} (x : ℕ) → CountedBoth f text at n count respelled
       → x ≡ pairWord codes squares (drop at text) → 0x80 ≤ x → CountedBoth f text (at + 2) (n + 1) (count + 1) respelled

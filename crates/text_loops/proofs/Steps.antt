@@ -39,7 +39,7 @@ use Rattle.text_loops.specs.declared.Measured.{Measured}
 use Rattle.text_loops.specs.Fronts.{readIn, measured, stepAnswerAfter, ReadInto}
 use Rattle.text_loops.specs.LawWords.{HereStands, RefusedStep, CountedBoth, TakenBoth}
 use Rattle.text_loops.proofs.FewWords.{few-words, counted-fits}
-use Rattle.text_loops.proofs.Tallied.{tally-stop, tally-end}
+use Rattle.text_loops.proofs.Tallied.{stands-told, tally-stop, tally-end}
 
 -- ---- a step that is an element
 
@@ -74,14 +74,8 @@ unfolding graphic-here
 graphic-told f text at c b h q z =
     let o = getD text at 0 in
     let piece : take 1 (drop at text) ≡ o ∷ [] = ap (take 1) (at-place text at h) in
-    record {
-      size = 1;
-      here =
-          ap (tagHead (isCanonical f) (drop at text)) (graphic-here f text at c h q .here)
-          ∙ ap (λ (t : Bool). element (One c, t) 1)
-          (ap (λ (p : List ℕ). isCanonical f p (One c)) piece ∙ sym (alone-test f o c (sym q)) ∙ sym z);
-      onward = refl;
-    }
+    stands-told f (drop at text) at (graphic-here f text at c h q .here)
+    (ap (λ (p : List ℕ). isCanonical f p (One c)) piece ∙ sym (alone-test f o c (sym q)) ∙ sym z)
 
 -- ---- one that is none: at the place of a text that is not at its end, a refusal of reading
 

@@ -8,7 +8,7 @@ use mathlib.Core.List.{List, [], _∷_, _++_, map}
 use native.Mathlib.Nat.{add-zero}
 use native.Mathlib.Omega.{arith}
 use borrow.Author.Tests.{eqb-true}
-use lib.ListN.{length, drop, length-map}
+use lib.ListN.{length, take, drop, length-map}
 use Rattle.run.specs.Choice.{pick}
 use Rattle.run.specs.Head.{Head, element, refused, none}
 use Rattle.run.specs.Grammar.{Run, Reads}
@@ -55,6 +55,12 @@ pub told-here : (f : Form) (text : List ℕ) (at : ℕ) (e : Element) (next : �
     → HereStands (canonicalHead f (drop at text)) at (e, b) next
 unfolding stepAt
 told-here f text at e next b q = told-by (canonicalHead f (drop at text)) at e next b q
+
+-- an element that stands there is told by the test of its octets
+pub stands-told : (f : Form) (s : List ℕ) {e : Element} {k : ℕ} {b : Bool} (at : ℕ) → headIn f s ≡ element e k
+    → isCanonical f (take k s) e ≡ b → HereStands (canonicalHead f s) at (e, b) (at + k)
+stands-told f s {e} {k} at h q =
+    record { size = k; here = ap (tagHead (isCanonical f) s) h ∙ ap (λ (t : Bool). element (e, t) k) q; onward = refl }
 
 -- ---- what a lent table has is canonical
 

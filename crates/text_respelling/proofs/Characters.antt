@@ -11,7 +11,6 @@ use lib.ListN.{length, getD, take, drop, drop-of-length-le}
 use borrow.Author.Tests.{ltb-true, ltb-false, lt-ltb, le-ltb}
 use Rattle.run.specs.Choice.{pick}
 use Rattle.run.specs.Head.{element}
-use Rattle.run.specs.Tagged.{tagHead}
 use Rattle.run.proofs.FromPlace.{at-place}
 use Rattle.squares.specs.Squares.{squareTable}
 use Rattle.sorts.specs.declared.Form.{Form}
@@ -25,7 +24,7 @@ use Rattle.element_words.specs.declared.Element.the-variants.{One}
 use Rattle.element_spelling.specs.ElementOctets.{isCanonical}
 use Rattle.element_reading.specs.ElementHead.{headSort, headIn, canonicalHead, pairHead, followerHead}
 use Rattle.text_loops.specs.LawWords.{HereStands}
-use Rattle.text_loops.proofs.Tallied.{canonicalOne, written-canonical, listed-canonical}
+use Rattle.text_loops.proofs.Tallied.{stands-told, canonicalOne, written-canonical, listed-canonical}
 use Rattle.text_writing.proofs.Packed.{Packed, packed-word}
 use Rattle.text_writing.proofs.Runs.{Spelt}
 use Rattle.text_respelling.specs.declared.Character.{Character}
@@ -133,11 +132,4 @@ module _ (f g : Form) (codes : List ℕ) (squares : List (List ℕ)) (table text
 
   -- and it is told of it that it is canonical
   pub text-told : HereStands (canonicalHead f (drop at text)) at (canonicalOne (x .code)) (at + x .size)
-  text-told =
-      record {
-        size = x .size;
-        here =
-            ap (tagHead (isCanonical f) (drop at text)) (there .here)
-            ∙ ap (λ (b : Bool). element (One (x .code), b) (x .size)) (there .canonical);
-        onward = refl;
-      }
+  text-told = stands-told f (drop at text) at (there .here) (there .canonical)
