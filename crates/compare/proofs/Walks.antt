@@ -5,10 +5,11 @@ use mathlib.Core.Path.{_≡_, refl, sym, ap, ap₂, _∙_, subst}
 use mathlib.Core.Bool.{Bool, true, false}
 use mathlib.Core.List.{List, [], _∷_, _++_}
 use native.Mathlib.Omega.{arith}
-use lib.ListN.{length, take, drop, getD, length-append, length-drop, take-append-drop}
-use lib.Seq.{drop-drop, length-take-le, take-append-seam}
+use lib.ListN.{length, take, drop, getD, length-drop, take-append-drop}
+use lib.Seq.{drop-drop, length-take-le}
 use Rattle.run.specs.Choice.{pick}
 use Rattle.run.specs.Head.{Head, element, accepted}
+use Rattle.run.proofs.Outcomes.{front-taken}
 use Rattle.run.proofs.FromPlace.{at-place}
 use Rattle.sorts.specs.declared.Form.{Form}
 use Rattle.element_words.specs.declared.Element.{Element}
@@ -32,7 +33,7 @@ module _ (f : Form) (s t : List ℕ) where
   pub same-here : {k : ℕ} → SizeOf f s k → take k s ≡ take k t → sharedOf 1 k k 0 ≡ sharedHere f s t
   same-here {k} size q =
       let b = reads f .found s (size .what) k (size .here) in
-      let p : take k s ≡ b .front = ap₂ take (b .size) (b .whole) ∙ take-append-seam (b .front) (b .rest) in
+      let p = front-taken b in
       let two : t ≡ b .front ++ drop k t = sym (take-append-drop k t) ∙ ap (λ (l : List ℕ). l ++ drop k t) (sym q ∙ p) in
       let there : headIn f t ≡ element (size .what) k =
       ap (headIn f) two ∙ reads f .finds (b .front) (drop k t) (size .what) (b .spells) ∙ ap (element (size .what)) (sym (b .size)) in
@@ -55,8 +56,8 @@ module _ (f : Form) (s t : List ℕ) where
     otherwise-here q o =
         let b = reads f .found s e k one in
         let c = reads f .found t g l two in
-        let lk : length (take k s) ≡ k = length-take-le k s (omega (arith, ap length (b .whole), length-append (b .front) (b .rest), b .size)) in
-        let ll : length (take l t) ≡ l = length-take-le l t (omega (arith, ap length (c .whole), length-append (c .front) (c .rest), c .size)) in
+        let lk : length (take k s) ≡ k = ap length (front-taken b) ∙ sym (b .size) in
+        let ll : length (take l t) ≡ l = ap length (front-taken c) ∙ sym (c .size) in
         let other : sameOctets (take k s) (take l t) ≡ false = other-octets (take k s) (take l t)
         (λ z. let n : l ≡ k = sym ll ∙ sym (ap length z) ∙ lk in
         let w : _≡_ {A = Bool} true false =

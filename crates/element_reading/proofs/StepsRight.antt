@@ -2,14 +2,15 @@
 -- the code gives by them is the one that is defined.
 -- Assumes nothing.
 use Prim.Native.Nat.{ℕ, _+_, _-_}
-use mathlib.Core.Path.{_≡_, refl, sym, ap, ap₂, _∙_}
+use mathlib.Core.Path.{_≡_, refl, sym, ap, _∙_}
 use mathlib.Core.Bool.{true}
 use mathlib.Core.List.{List, _∷_, _++_}
 use native.Mathlib.Omega.{arith}
 use lib.ListN.{length, take, drop, getD}
-use lib.Seq.{getD-drop, take-append-seam}
+use lib.Seq.{getD-drop}
 use Rattle.run.specs.Head.{Head, element, refused, none}
 use Rattle.run.specs.Tagged.{tagHead}
+use Rattle.run.proofs.Outcomes.{front-taken}
 use Rattle.sorts.specs.declared.Form.{Form}
 use Rattle.sequence_spelling.specs.SequenceOctets.{zeroFree}
 use Rattle.sequence_spelling.proofs.ZeroFree.{last-free}
@@ -55,8 +56,9 @@ module _ (f : Form) (text : List ℕ) (at : ℕ) where
       → testBy f text at e k ≡ isCanonical f (take k (drop at text)) e
   found-test e k q =
       let b = reads f .found (drop at text) e k q in
-      let piece : take k (drop at text) ≡ b .front = ap₂ take (b .size) (b .whole) ∙ take-append-seam (b .front) (b .rest) in
-      ap (testBy f text at e) (b .size) ∙ spelt-test (b .rest) (b .spells) (b .whole) ∙ ap (λ (p : List ℕ). isCanonical f p e) (sym piece)
+      ap (testBy f text at e) (b .size)
+      ∙ spelt-test (b .rest) (b .spells) (b .whole)
+      ∙ ap (λ (p : List ℕ). isCanonical f p e) (sym (front-taken b))
 
   right-by : (h : Head Element) → headIn f (drop at text) ≡ h → stepBy f text at h ≡ stepOf at (tagHead (isCanonical f) (drop at text) h)
   right-by (element e k) q = ap (Read e (at + k)) (found-test e k q)

@@ -9,7 +9,7 @@ use native.Mathlib.Omega.{arith}
 use native.Mathlib.Nat.{add-comm, zero-add}
 use lib.Dec.{eqb, leb}
 use lib.ListN.{length, take, drop, length-append, take-append-drop}
-use lib.Seq.{take-append-seam, drop-append-seam, take-append-le, drop-append-add, sets, length-sets}
+use lib.Seq.{take-append-seam, take-append-le, drop-append-add, sets, length-sets}
 use types.Run.{OneOf}
 use denote.Enum.Declared.{tagOf}
 use borrow.Author.Tests.{leb-true, leb-false, eqb-true, ne-eqb}
@@ -53,8 +53,7 @@ module _ (f : Form) (held piece : List ℕ) (open′ : headIn f held ≡ refused
   ends-not-before : k ≤ length held → ⊥
   ends-not-before h =
       let b = reads f .found (held ++ piece) e k here in
-      let front : take k held ≡ b .front =
-      sym (take-append-le k held piece h) ∙ ap₂ take (b .size) (b .whole) ∙ take-append-seam (b .front) (b .rest) in
+      let front : take k held ≡ b .front = sym (take-append-le k held piece h) ∙ outcomes.front-taken b in
       let whole : held ≡ b .front ++ drop k held = sym (take-append-drop k held) ∙ ap (λ (l : List ℕ). l ++ drop k held) front in
       let q : headIn f held ≡ element e (length (b .front)) = ap (headIn f) whole ∙ reads f .finds (b .front) (drop k held) e (b .spells) in
       let z : _≡_ {A = ℕ} 0 1 = cc in
@@ -97,10 +96,9 @@ module _ (f : Form) (s : List ℕ) {e : Element} {k : ℕ} (here : headIn f s �
   one-read : OneRead
   one-read =
       let b = reads f .found s e k here in
-      let left : drop k s ≡ b .rest = ap₂ drop (b .size) (b .whole) ∙ drop-append-seam (b .front) (b .rest) in
       record {
         front = b .front;
-        whole = b .whole ∙ ap (λ (l : List ℕ). b .front ++ l) (sym left);
+        whole = b .whole ∙ ap (λ (l : List ℕ). b .front ++ l) (sym (outcomes.rest-dropped b));
         run = one-run (b .spells);
         size = b .size;
       }
@@ -192,13 +190,12 @@ pub behind-respelled : (f : Form) (s : List ℕ) {e : Element} {b : Bool} {k : �
 behind-respelled f s {e} {b} {k} told =
     let t = told-reads f .found s (e, b) k told in
     let p = t .front in
-    let left : drop k s ≡ t .rest = ap₂ drop (t .size) (t .whole) ∙ drop-append-seam p (t .rest) in
     let alone : canonicalHead f p ≡ element (e, b) (length p) =
     ap (canonicalHead f) (sym (append-nil p)) ∙ told-reads f .finds p [] (e, b) (t .spells) in
     let one = tally-turn f p (tally-start f p) (record { size = length p; here = alone; onward = sym (zero-add (length p)) }) refl in
     ap (respelledBefore f) (t .whole)
     ∙ respelled-joined f p (t .rest) (e ∷ []) (one-run (t .spells .0))
-    ∙ ap₂ _+_ (sym (tally-end f p one (omega arith)) ∙ zero-add (pick b 0 1)) (ap (respelledBefore f) (sym left))
+    ∙ ap₂ _+_ (sym (tally-end f p one (omega arith)) ∙ zero-add (pick b 0 1)) (ap (respelledBefore f) (sym (outcomes.rest-dropped t)))
 
 given-none : given wordsOf [] ≡ []
 unfolding given

@@ -9,7 +9,7 @@ use native.Mathlib.Omega.{arith}
 use lib.ListN.{length, take, drop, length-append}
 use lib.Seq.{take-append-seam, drop-append-seam}
 use Rattle.run.specs.Head.{Head, element, refused, none, Outcome, accepted, refusal, join, from, outcome}
-use Rattle.run.specs.Grammar.{Run, done, more, RunOf, Reads, Stopped, Placed}
+use Rattle.run.specs.Grammar.{Run, done, more, RunOf, Begins, Reads, Stopped, Placed}
 
 -- joinings compose
 pub join-join : {A : Type 0} (es fs : List A) (k l : ℕ) (x : Outcome A) → join es k (join fs l x) ≡ join (es ++ fs) (k + l) x
@@ -26,6 +26,14 @@ from-drop head [] zero = refl
 from-drop head [] (suc k) = refl
 from-drop head (b ∷ s) zero = refl
 from-drop head (b ∷ s) (suc k) = from-drop head s k
+
+-- what a list begins with is so many of its first entries, and the rest is what is left behind them
+module _ {X A : Type 0} {S : List X → A → Type 0} {s : List X} {e : A} {k : ℕ} (b : Begins S s e k) where
+  pub front-taken : take k s ≡ b .front
+  front-taken = ap₂ take (b .size) (b .whole) ∙ take-append-seam (b .front) (b .rest)
+
+  pub rest-dropped : drop k s ≡ b .rest
+  rest-dropped = ap₂ drop (b .size) (b .whole) ∙ drop-append-seam (b .front) (b .rest)
 
 -- a run has as many pieces as elements
 pub run-length : {X A : Type 0} {S : List X → A → Type 0} {s : List X} {ps : List (List X)} {es : List A} → Run S s ps es

@@ -1,7 +1,7 @@
 -- A head whose elements carry tags: it keeps the record of promises if the head does, and without the tags its outcome is the head's.
 -- Assumes nothing.
 use Prim.Native.Nat.{ℕ, zero, suc, _-_}
-use mathlib.Core.Path.{_≡_, refl, sym, ap, ap₂, _∙_, subst}
+use mathlib.Core.Path.{_≡_, refl, sym, ap, _∙_, subst}
 use mathlib.Core.List.{List, [], _∷_, _++_, map}
 use native.Mathlib.Omega.{arith}
 use lib.ListN.{length, take}
@@ -9,6 +9,7 @@ use lib.Seq.{take-append-seam}
 use Rattle.run.specs.Head.{Head, element, refused, none, Outcome, accepted, refusal, join, after, from, outcome}
 use Rattle.run.specs.Grammar.{Run, done, more, Begins, Reads}
 use Rattle.run.specs.Tagged.{Tagged, tagHead, tagged, untagged, untag}
+use Rattle.run.proofs.Outcomes.{front-taken}
 
 -- ---- without the tags
 
@@ -63,12 +64,11 @@ module _ {X A B : Type 0} (tag : List X → A → B) {head : List X → Head A} 
       let b = laws .found s e n q in
       let ex : _≡_ {A = A × B} (e, tag (take n s) e) x = cc in
       let en : n ≡ k = cc in
-      let piece : take n s ≡ b .front = ap₂ take (b .size) (b .whole) ∙ take-append-seam (b .front) (b .rest) in
       record {
         front = b .front;
         rest = b .rest;
         whole = b .whole;
-        spells = subst (Tagged tag S (b .front)) ex (b .spells, ap (λ (p : List X). tag p e) piece);
+        spells = subst (Tagged tag S (b .front)) ex (b .spells, ap (λ (p : List X). tag p e) (front-taken b));
         size = sym en ∙ b .size;
       }
   tagged-found s x k (refused r d) q z = let w : _≡_ {A = ℕ} 0 1 = cc in absurd (omega arith)
