@@ -36,7 +36,7 @@ use Rattle.element_reading.proofs.Reader.{reads, refuses-exactly-by}
 use Rattle.element_reading.proofs.Deciding.{forty, unfinished, cut-exactly}
 use Rattle.text_loops.specs.declared.Measured.{Measured}
 use Rattle.text_loops.specs.Fronts.{readIn, measured, wordsBefore, respelledBefore, askedFor, stepAnswerAfter}
-use Rattle.text_loops.proofs.Tallied.{told-here, told-reads, tally-start, tally-turn, tally-end}
+use Rattle.text_loops.proofs.Tallied.{told-here, told-stands, told-reads, tally-start, tally-turn, tally-end}
 use Rattle.text_loops.proofs.Steps.{step-refused, count-is-place}
 use Rattle.text_loops.specs.Promises.{ReadFrontPromise}
 use Rattle.text_reading.proofs.Respelled.{respelled-joined}
@@ -176,13 +176,6 @@ module _ (f : Form) (s : List ℕ) {e : Element} {k : ℕ} (here : headIn f s �
           record { answer = answer r n p d; words = length (given wordsOf (z .fault .elements)); respelled = respelledBefore f rest } in
           let same : now ≡ moved left = simp (l, some, n1, add-comm k p, add-comm k d) in
           refused-measured f s q′ z′ ∙ same ∙ sym (ap moved (refused-measured f rest q z))
-
--- an element that is told stands there: what it is told is forgotten
-pub told-stands : (f : Form) (s : List ℕ) {e : Element} {b : Bool} {k : ℕ} → canonicalHead f s ≡ element (e, b) k
-    → headIn f s ≡ element e k
-told-stands f s {e} {b} {k} told =
-    let t = told-reads f .found s (e, b) k told in
-    ap (headIn f) (t .whole) ∙ reads f .finds (t .front) (t .rest) e (t .spells .0) ∙ ap (element e) (sym (t .size))
 
 -- how many elements were not canonical: it adds up behind an element that is told
 pub behind-respelled : (f : Form) (s : List ℕ) {e : Element} {b : Bool} {k : ℕ} → canonicalHead f s ≡ element (e, b) k

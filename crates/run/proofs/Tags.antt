@@ -1,7 +1,8 @@
--- A head whose elements carry tags: it keeps the record of promises if the head does, and without the tags its outcome is the head's.
+-- A head whose elements carry tags: it keeps the record of promises if the head does, and without the tags what it says, and its outcome,
+-- are the head's.
 -- Assumes nothing.
 use Prim.Native.Nat.{ℕ, zero, suc, _-_}
-use mathlib.Core.Path.{_≡_, refl, sym, ap, _∙_, subst}
+use mathlib.Core.Path.{_≡_, refl, sym, ap, ap₂, _∙_}
 use mathlib.Core.List.{List, [], _∷_, _++_, map}
 use native.Mathlib.Omega.{arith}
 use lib.ListN.{length, take}
@@ -35,6 +36,30 @@ module _ {X A B : Type 0} (tag : List X → A → B) (head : List X → Head A) 
   unfolding outcome
   untag-outcome s = untag-from s 0
 
+-- ---- the tag forgotten: what a tagged head finds, what it refuses, and that none is left, is as the head says
+
+module _ {X A B : Type 0} (tag : List X → A → B) (s : List X) where
+  -- and the tag is what is made of the entries found
+  pub element-of : (h : Head A) (x : A × B) (k : ℕ) → tagHead tag s h ≡ element x k
+      → (h ≡ element (x .0) k) × (x .1 ≡ tag (take k s) (x .0))
+  element-of (element e n) x k z =
+      let ex : _≡_ {A = A × B} (e, tag (take n s) e) x = cc in
+      let en : n ≡ k = cc in
+      let e0 : e ≡ x .0 = ap (λ (y : A × B). y .0) ex in
+      (ap₂ element e0 en, sym (ap (λ (y : A × B). y .1) ex) ∙ ap₂ (λ (i : ℕ) (y : A). tag (take i s) y) en e0)
+  element-of (refused r d) x k z = let w : _≡_ {A = ℕ} 0 1 = cc in absurd (omega arith)
+  element-of none x k z = let w : _≡_ {A = ℕ} 0 1 = cc in absurd (omega arith)
+
+  pub refused-of : (h : Head A) (r d : ℕ) → tagHead tag s h ≡ refused r d → h ≡ refused r d
+  refused-of (element e n) r d z = let w : _≡_ {A = ℕ} 0 1 = cc in absurd (omega arith)
+  refused-of (refused r′ d′) r d z = cc
+  refused-of none r d z = let w : _≡_ {A = ℕ} 0 1 = cc in absurd (omega arith)
+
+  pub none-of : (h : Head A) → tagHead tag s h ≡ none → h ≡ none
+  none-of (element e n) z = let w : _≡_ {A = ℕ} 0 1 = cc in absurd (omega arith)
+  none-of (refused r d) z = let w : _≡_ {A = ℕ} 0 1 = cc in absurd (omega arith)
+  none-of none z = refl
+
 -- ---- runs
 
 module _ {X A B : Type 0} (tag : List X → A → B) {S : List X → A → Type 0} where
@@ -59,41 +84,27 @@ module _ {X A B : Type 0} (tag : List X → A → B) {head : List X → Head A} 
       ap (tagHead tag (p ++ t)) (laws .finds p t (x .0) (h .0))
       ∙ ap (λ (b : B). element (x .0, b) (length p)) (ap (λ (q : List X). tag q (x .0)) (take-append-seam p t) ∙ sym (h .1))
 
-  tagged-found : (s : List X) (x : A × B) (k : ℕ) (h : Head A) → head s ≡ h → tagHead tag s h ≡ element x k → Begins (Tagged tag S) s x k
-  tagged-found s x k (element e n) q z =
-      let b = laws .found s e n q in
-      let ex : _≡_ {A = A × B} (e, tag (take n s) e) x = cc in
-      let en : n ≡ k = cc in
+  tagged-found : (s : List X) (x : A × B) (k : ℕ) → tagged tag head s ≡ element x k → Begins (Tagged tag S) s x k
+  tagged-found s x k z =
+      let h = element-of tag s (head s) x k z in
+      let b = laws .found s (x .0) k (h .0) in
       record {
         front = b .front;
         rest = b .rest;
         whole = b .whole;
-        spells = subst (Tagged tag S (b .front)) ex (b .spells, ap (λ (p : List X). tag p e) (front-taken b));
-        size = sym en ∙ b .size;
+        spells = (b .spells, h .1 ∙ ap (λ (p : List X). tag p (x .0)) (front-taken b));
+        size = b .size;
       }
-  tagged-found s x k (refused r d) q z = let w : _≡_ {A = ℕ} 0 1 = cc in absurd (omega arith)
-  tagged-found s x k none q z = let w : _≡_ {A = ℕ} 0 1 = cc in absurd (omega arith)
-
-  -- what is refused, and where nothing is left, is as the head says
-  refused-of : (s : List X) (h : Head A) (r d : ℕ) → tagHead tag s h ≡ refused r d → h ≡ refused r d
-  refused-of s (element e n) r d z = let w : _≡_ {A = ℕ} 0 1 = cc in absurd (omega arith)
-  refused-of s (refused r′ d′) r d z = cc
-  refused-of s none r d z = let w : _≡_ {A = ℕ} 0 1 = cc in absurd (omega arith)
-
-  none-of : (s : List X) (h : Head A) → tagHead tag s h ≡ none → h ≡ none
-  none-of s (element e n) z = let w : _≡_ {A = ℕ} 0 1 = cc in absurd (omega arith)
-  none-of s (refused r d) z = let w : _≡_ {A = ℕ} 0 1 = cc in absurd (omega arith)
-  none-of s none z = refl
 
   -- A head that keeps the record of promises keeps it with tags.
   pub tagged-reads : Reads (tagged tag head) (Tagged tag S)
   tagged-reads =
       record {
         finds = tagged-finds;
-        found = λ s x k z. tagged-found s x k (head s) refl z;
+        found = tagged-found;
         some = λ p x h. laws .some p (x .0) (h .0);
         ends = ap (tagHead tag []) (laws .ends);
-        goes = λ s z. laws .goes s (none-of s (head s) z);
-        numbered = λ s r d z. laws .numbered s r d (refused-of s (head s) r d z);
-        inside = λ s r d z. laws .inside s r d (refused-of s (head s) r d z);
+        goes = λ s z. laws .goes s (none-of tag s (head s) z);
+        numbered = λ s r d z. laws .numbered s r d (refused-of tag s (head s) r d z);
+        inside = λ s r d z. laws .inside s r d (refused-of tag s (head s) r d z);
       }

@@ -39,20 +39,15 @@ use Rattle.text_loops.specs.declared.Measured.{Measured}
 use Rattle.text_loops.specs.Fronts.{readIn, measured, stepAnswerAfter, ReadInto}
 use Rattle.text_loops.specs.LawWords.{HereStands, RefusedStep, CountedBoth, TakenBoth}
 use Rattle.text_loops.proofs.FewWords.{few-words, counted-fits}
-use Rattle.text_loops.proofs.Tallied.{stands-told, tally-stop, tally-end}
+use Rattle.text_loops.proofs.Tallied.{told-here, told-stands, stands-told, tally-stop, tally-end}
 
 -- ---- a step that is an element
 
-here-by : (tag : List ℕ → Element → Bool) (s : List ℕ) (h : Head Element) (at : ℕ) (e : Element) (next : ℕ) (b : Bool)
-    → stepOf at (tagHead tag s h) ≡ Read e next b → HereStands h at e next
-here-by tag s (element e₀ k) at e next b q = record { size = k; here = cc; onward = cc }
-here-by tag s (refused r d) at e next b q = let w : _≡_ {A = ℕ} 0 1 = cc in absurd (omega arith)
-here-by tag s none at e next b q = let w : _≡_ {A = ℕ} 0 1 = cc in absurd (omega arith)
-
 pub here : (f : Form) (text : List ℕ) (at : ℕ) (e : Element) (next : ℕ) (b : Bool) → stepAt f text at ≡ Read e next b
     → HereStands (headIn f (drop at text)) at e next
-unfolding stepAt
-here f text at e next b q = here-by (isCanonical f) (drop at text) (headIn f (drop at text)) at e next b q
+here f text at e next b q =
+    let h = told-here f text at e next b q in
+    record { size = h .size; here = told-stands f (drop at text) (h .here); onward = h .onward }
 
 -- an octet that is a spacing character by itself is an element
 pub graphic-here : (f : Form) (text : List ℕ) (at : ℕ) (c : ℕ) → at < length text → Graphic c ≡ sortIn f (getD text at 0)

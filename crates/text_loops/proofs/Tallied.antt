@@ -18,7 +18,7 @@ use Rattle.run.specs.Tagged.{Tagged, tagHead}
 use Rattle.run.specs.Tally.{noted}
 use Rattle.run.proofs.Loops.{count-start, count-turn, count-turns}
 use Rattle.run.proofs.Before.{counted-end, counted-stop}
-use Rattle.run.proofs.Tags.{tagged-reads}
+use Rattle.run.proofs.Tags.{element-of, tagged-reads}
 use Rattle.run.proofs.Tallies.{noted-size, noted-few, tally-most}
 use Rattle.sorts.specs.declared.Form.{Form}
 use Rattle.sorts.specs.declared.Octet.{Octet}
@@ -56,11 +56,15 @@ pub told-here : (f : Form) (text : List ℕ) (at : ℕ) (e : Element) (next : �
 unfolding stepAt
 told-here f text at e next b q = told-by (canonicalHead f (drop at text)) at e next b q
 
--- an element that stands there is told by the test of its octets
-pub stands-told : (f : Form) (s : List ℕ) {e : Element} {k : ℕ} {b : Bool} (at : ℕ) → headIn f s ≡ element e k
-    → isCanonical f (take k s) e ≡ b → HereStands (canonicalHead f s) at (e, b) (at + k)
-stands-told f s {e} {k} at h q =
-    record { size = k; here = ap (tagHead (isCanonical f) s) h ∙ ap (λ (t : Bool). element (e, t) k) q; onward = refl }
+module _ (f : Form) (s : List ℕ) {e : Element} {k : ℕ} {b : Bool} where
+  -- an element that is told stands there: what it is told is forgotten;
+  pub told-stands : canonicalHead f s ≡ element (e, b) k → headIn f s ≡ element e k
+  told-stands q = element-of (isCanonical f) s (headIn f s) (e, b) k q .0
+
+  -- and one that stands there is told by the test of its octets
+  pub stands-told : (at : ℕ) → headIn f s ≡ element e k → isCanonical f (take k s) e ≡ b → HereStands (canonicalHead f s) at (e, b) (at + k)
+  stands-told at h q =
+      record { size = k; here = ap (tagHead (isCanonical f) s) h ∙ ap (λ (t : Bool). element (e, t) k) q; onward = refl }
 
 -- ---- what a lent table has is canonical
 

@@ -13,10 +13,10 @@ use Rattle.run.proofs.Puts.{behind-is}
 use Rattle.element_reading.specs.ElementHead.{headIn, canonicalHead}
 use Rattle.text_loops.specs.declared.Measured.{Measured}
 use Rattle.text_loops.specs.Promises.{ReadFrontPromise}
+use Rattle.text_loops.proofs.Tallied.{told-stands}
 use Rattle.open_elements.proofs.Fronts.{Modest, modest}
 use Rattle.open_elements.proofs.Opened.{
   head-words,
-  told-stands,
   behind-respelled,
   gathered-size,
   first-octets,
