@@ -8,7 +8,6 @@ use mathlib.Core.Bool.{Bool, true, false}
 use mathlib.Core.List.{List}
 use native.Mathlib.Omega.{arith}
 use lib.ListN.{length, take, drop, length-drop, drop-of-length-le}
-use lib.Seq.{take-append-seam}
 use Rattle.run.specs.Choice.{pick}
 use Rattle.run.specs.Head.{Head, element, refused, none}
 use Rattle.run.specs.Grammar.{Begins}
@@ -16,6 +15,7 @@ use Rattle.run.specs.Tagged.{tagHead}
 use Rattle.run.specs.declared.ReadAnswer.{ReadAnswer}
 use Rattle.run.specs.Answers.{answer}
 use Rattle.run.proofs.Choices.{is-false}
+use Rattle.run.proofs.Outcomes.{front-taken}
 use Rattle.sorts.specs.declared.Form.{Form}
 use Rattle.element_words.specs.declared.Element.{Element}
 use Rattle.element_words.specs.Words.{wordsOf}
@@ -38,10 +38,6 @@ module _ (f : Form) (text : List ℕ) (at : ℕ) where
   abbrev step : Head Element → Step
   step h = stepOf at (tagHead (isCanonical f) (drop at text) h)
 
-  -- the octets that are tested are those that spell the element
-  piece : {e : Element} {k : ℕ} (b : Begins (Spells f) (drop at text) e k) → take k (drop at text) ≡ b .front
-  piece b = ap₂ take (b .size) (b .whole) ∙ take-append-seam (b .front) (b .rest)
-
   -- an element that stands there has its row, by the test of its octets
   pub element-row : (e : Element) (k : ℕ) (b : Begins (Spells f) (drop at text) e k) (t : Bool) → isCanonical f (b .front) e ≡ t
       → ElementRow f text at (reading (answer 0 1 (at + k) (length (wordsOf e))) (pick t 0 1)) (wordsOf e)
@@ -52,7 +48,7 @@ module _ (f : Form) (text : List ℕ) (at : ℕ) where
   row-of : (h : Head Element) → headIn f (drop at text) ≡ h → Told (step h)
   row-of (element e k) q =
       let b = reads f .found (drop at text) e k q in
-      element-row e k b (isCanonical f (take k (drop at text)) e) (ap (λ (p : List ℕ). isCanonical f p e) (sym (piece b)))
+      element-row e k b (isCanonical f (take k (drop at text)) e) (ap (λ (p : List ℕ). isCanonical f p e) (sym (front-taken b)))
   row-of (refused r d) q = ElementRow.refused (refuses-exactly-by f (drop at text) r d .0 q)
   row-of none q =
       let z : length (drop at text) ≡ 0 = ap length (reads f .goes (drop at text) q) in
@@ -73,7 +69,7 @@ module _ (f : Form) (text : List ℕ) (at : ℕ) where
       × (stepWords (stepAt f text at) ≡ wordsOf e)
   by-test {e} {k} b t q =
       let h = by-head (element e k) (begins-head f b) in
-      let z : isCanonical f (take k (drop at text)) e ≡ t = ap (λ (p : List ℕ). isCanonical f p e) (piece b) ∙ q in
+      let z : isCanonical f (take k (drop at text)) e ≡ t = ap (λ (p : List ℕ). isCanonical f p e) (front-taken b) ∙ q in
       (h .0 ∙ ap (λ (x : Bool). reading (answer 0 1 (at + k) (length (wordsOf e))) (pick x 0 1)) z, h .1)
 
   row-step : {a : ReadAnswer} {ws : List ℕ} → ElementRow f text at a ws
@@ -99,7 +95,7 @@ module _ (f : Form) (text : List ℕ) (at : ℕ) where
       let after : next ≡ at + k = cc in
       let told : b ≡ isCanonical f (take k (drop at text)) e₀ = cc in
       let size : next - at ≡ k = omega (arith, after) in
-      let octets : take (next - at) (drop at text) ≡ i .front = ap (λ (n : ℕ). take n (drop at text)) size ∙ piece i in
+      let octets : take (next - at) (drop at text) ≡ i .front = ap (λ (n : ℕ). take n (drop at text)) size ∙ front-taken i in
       let test : b ≡ isCanonical f (take (next - at) (drop at text)) e =
       told ∙ ap₂ (λ (n : ℕ) (x : Element). isCanonical f (take n (drop at text)) x) (sym size) same in
       (λ y. says-canonical f (subst₂ (Spells f) (sym octets) same (i .spells)) (sym test ∙ y), λ c. test ∙ is-canonical f c)

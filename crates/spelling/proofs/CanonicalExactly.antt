@@ -297,3 +297,8 @@ module _ (f : Form) where
   one-character (Codes.shifted s e) (Codes.shifted s′ e′) = cc
   one-character (Codes.pair {m = m} e q) (Codes.pair {m = n} e′ q′) = let w : m ≡ n = cc in cc
   one-character (Codes.shifted-pair {m = m} s e q) (Codes.shifted-pair {m = n} s′ e′ q′) = let w : m ≡ n = cc in cc
+
+-- An octet is chosen where, if the form writes one for its character, it is that one.
+pub written-chosen : (f : Form) (c o : ℕ) → IsThat (octetIn (alphabetOf f .writes) c) o → Chosen f c o
+unfolding Chosen
+written-chosen f c o h = h

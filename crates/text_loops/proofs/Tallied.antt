@@ -25,7 +25,8 @@ use Rattle.sorts.specs.declared.Octet.{Octet}
 use Rattle.sorts.specs.declared.Octet.the-variants.{Is, Absent}
 use Rattle.sorts.specs.Cells.{octetIn}
 use Rattle.sorts.specs.Forms.{alphabetOf}
-use Rattle.spelling.specs.CanonicalSpelling.{Codes, Canonical, IsThat, Chosen}
+use Rattle.spelling.specs.CanonicalSpelling.{Codes, Canonical, IsThat}
+use Rattle.spelling.proofs.CanonicalExactly.{written-chosen}
 use Rattle.lent_tables.specs.CodeTables.{isWritten, ListedPair}
 use Rattle.lent_tables.proofs.LentEntries.{WrittenOctet}
 use Rattle.element_words.specs.declared.Element.{Element}
@@ -75,9 +76,8 @@ module _ (f : Form) where
 
   -- an octet that is written for its character
   pub written-canonical : (o c : ℕ) → WrittenOctet f o c → isCanonical f (o ∷ []) (One c) ≡ true
-  unfolding Chosen
   written-canonical o c w =
-      let chosen : Chosen f c o = chosen-by o (octetIn (alphabetOf f .writes) c) (w .written) in
+      let chosen = written-chosen f c o (chosen-by o (octetIn (alphabetOf f .writes) c) (w .written)) in
       is-canonical f (CanonicalElement.graphic (Canonical.one (Codes.one (w .sorts)) chosen))
 
   -- a pair of a character that is not of ASCII

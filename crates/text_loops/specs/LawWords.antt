@@ -1,5 +1,5 @@
--- Parts of the code: the words in which the laws of this crate (proofs/Steps) are stated; no promise and no statement of a theorem of
--- record has them.
+-- Parts of the code: the words in which the laws of the loops are stated (proofs/Steps, Tallied, RunsAndPairs; `text_respelling`); no
+-- promise and no statement of a theorem of record has them.
 -- Assumes nothing.
 use Prim.Native.Nat.{ℕ, _+_}
 use mathlib.Core.Path.{_≡_}

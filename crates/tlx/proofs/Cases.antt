@@ -219,9 +219,9 @@ refused-number (of-page {f = f} q c i) =
 -- ---- the same, of what `read_case` answers and of the words it leaves
 
 -- a refusal carries 0
-none-of : {case : List ℕ} {g r n p d : ℕ} → RefusedCase case g r n p d → (k : ℕ)
+refused-none : {case : List ℕ} {g r n p d : ℕ} → RefusedCase case g r n p d → (k : ℕ)
     → _≡_ {A = CaseAnswer} (beside g (answer r n p (countOf r d))) (carryingCase (beside g (answer r n p (countOf r d))) k)
-none-of {g = g} {r} {n} {p} {d} i k =
+refused-none {g = g} {r} {n} {p} {d} i k =
     carried-none (beside g (answer r n p (countOf r d))) _ k refl (λ z. omega (arith, z, refused-number i .0))
 
 module _ {case words : List ℕ} where
@@ -237,7 +237,7 @@ module _ {case words : List ℕ} where
 
   -- and the fifth
   fifth-of-row : {a : CaseAnswer} {after : List ℕ} → CaseTable case words a after → a ≡ carryingCase (withoutFifth a) (caseRespelled case)
-  fifth-of-row (CaseTable.refused i) = none-of i (caseRespelled case)
+  fifth-of-row (CaseTable.refused i) = refused-none i (caseRespelled case)
   fifth-of-row (CaseTable.short-room a h) = refl
   fifth-of-row (CaseTable.accepted {es} {k} a counted h) =
       ap (λ (k : ℕ). record { answer = answer 0 (length es) (length case) (Size es); respelled = k; page = 0 }) (sym (has-case a counted))
@@ -262,7 +262,7 @@ module _ (case : List ℕ) (octets : Octets case) (words : List ℕ) where
   by-outcome (all es) q = by-room es (case-accepted case octets es .0 q) (leb (Size es) (length words)) refl
   by-outcome (fault g r n p d) q =
       let i = case-refused case octets g r n p d .0 q in
-      subst (λ (a : CaseAnswer). CaseTable case words a words) (none-of i (caseRespelled case)) (CaseTable.refused i)
+      subst (λ (a : CaseAnswer). CaseTable case words a words) (refused-none i (caseRespelled case)) (CaseTable.refused i)
 
   -- Each of 11, 13, 14, 15, 9 and a page's refusal is given exactly when 01's table and order say so, with its page; and so is an
   -- acceptance, with the number that document 02 counts.
