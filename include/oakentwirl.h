@@ -45,8 +45,8 @@ _Static_assert(sizeof(size_t) == 8, "the library is made for 64 bits");
 /*
  * The version of this header, and of the library that goes with it. The major number changes where what a function takes or gives has
  * another layout: then every caller is compiled anew. Nothing tests it: an old caller that is linked with a new library reads wrong
- * numbers, and results are written past the room that it has for them. What came before 2.0 had no number, and counts as 1. OAK_VERSION,
- * below, is none of them, but a refusal: of a case's version.
+ * numbers, and results are written past the room that it has for them. What came before 2.0 had no number, and counts as 1. (OAK_VERSION,
+ * below, is another thing: the refusal of a case by its version.)
  */
 #define OAK_VERSION_MAJOR 2
 #define OAK_VERSION_MINOR 0
@@ -141,10 +141,10 @@ struct oak_answer {
  *   - a control sequence with a value that begins with the digit 0: canonically 0 has no digits, and no value has leading zeros.
  *
  * A conversion counts what was not canonical in the source form, whatever the target. Within one form these are the elements whose octets
- * it altered. Between two forms other octets may be altered too, and these may be the same all the same: 23 of form 3 is counted, and is 23
- * in form 1. Where there are none, and only there, converting back, within the limit, gives the text octet for octet. Where there are some,
- * their spellings cannot be had back: who may be asked for them keeps the text as it came, and finds them in it by oak_element. The number
- * adds up: two accepted texts, one behind the other, have the sum of both.
+ * it altered. Between two forms other elements may get other octets too, and one that is counted may keep its own: 23 of form 3 is counted,
+ * and is 23 in form 1. Where none is counted, and only there, converting back, within the limit, gives the text octet for octet. Where some
+ * are, their spellings cannot be had back: who may be asked for them keeps the text as it came, and finds them in it by oak_element. The
+ * number adds up: two accepted texts, one behind the other, have the sum of both.
  */
 struct oak_reading {
     size_t number, element, place, count, respelled;

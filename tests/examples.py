@@ -253,7 +253,7 @@ def expected_respelled(form: int, text: bytes) -> Ending:
     return Ending(0, f"{printed}{len(pieces)} elements, {model.respelled_in(pieces)} of them not canonical\n".encode(), "")
 
 
-# Elements of as many words as one has: in 40 octets, the most of any spelling, and in 35, of which 34 are canonical, the most of such a one.
+# Elements of as many words as one has: in 40 octets, the most of any spelling, and in 35, whose canonical spelling has 34, the most of one.
 LONGEST = (3, b"\x9B0001;002;0000003;4;5;06;0007;00000000 L\x9B0999;999;999;999;999;999;999;999 L")
 
 

@@ -4,7 +4,7 @@
 
 `compare` asks every question with the buffers laid in three ways, and says how many answers are the model's: all numbers, and every
 octet of each lent buffer after the call, the ones that are only read too. Questions are all texts of up to two octets, and of three that
-begin with SS2 or CC, read and converted, and each of their elements by itself; sequences in every kind of spelling; the vectors of
+begin with SS2 or CC, read and converted, and their elements by themselves; sequences in every kind of spelling; the vectors of
 make_text_vectors.py, make_serial_vectors.py, make_tlx_vectors.py and make_compare_vectors.py; random texts, words and cases, whole and
 damaged; accepted texts joined; random pages up to the limit in random pieces, each beside its reading as a whole; carries that nobody
 made; two texts compared, all of one octet, and random ones beside their respellings, changed and damaged; and the longest texts.
@@ -143,7 +143,8 @@ def short() -> Iterator[Asked]:
 
 
 def three_octets() -> Iterator[Asked]:
-    """All texts of SS2 and two octets in form 2, and of CC and two octets in form 3, read, their first element by itself, and converted within the form."""
+    """All texts of SS2 and two octets in form 2, and of CC and two octets in form 3: read, their first element by itself, and converted
+    within the form."""
     for form, first in ((2, model.SS2), (3, model.UNDERLINE)):
         for octets in itertools.product(range(256), repeat=2):
             text = bytes((first, *octets))

@@ -3,8 +3,8 @@
 A form is 1, 2 or 3, an octet is 0 to 255, a character is its Unicode code point. The lists below are the documents' own
 sentences, kept as text and taken apart here, so that they can be held against the page. Document 01 has no list of the characters of its
 154 pairs: they are derived from Unicode's canonical decompositions, as it says. The 155th pair, document 02's, is the one exception. Where
-a document leaves a matter open, docs/DECISIONS.md has how it was decided. Run by itself it checks what the documents give by
-hand. Standard library only.
+a document leaves a matter open, docs/DECISIONS.md has how it was decided. Run by itself it holds its functions against what was
+worked out by hand from the documents. Standard library only.
 """
 from __future__ import annotations
 

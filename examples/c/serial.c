@@ -4,9 +4,9 @@
  *     serial FORM <PAGE
  *
  * FORM is 1 (T51String in eight bits), 2 (in seven bits) or 3 (basic T.61). Each word is printed in hex, on a line of its own, as soon as
- * its element is whole. The last line says how many elements, octets and words the page has. Exit status: 0, the page is read; 1, it is
- * refused, and the message names the octet and its place, except for 11 and 12, which are about none; 2, anything else. The words before
- * a fault are printed in any case.
+ * its element is whole. The last line says how many elements, octets and words the page has, and how many of the elements are not
+ * canonical. Exit status: 0, the page is read; 1, it is refused, and the message names the octet and its place, except for 11 and 12, which
+ * are about none; 2, anything else. The words before a fault are printed in any case.
  */
 #include <inttypes.h>
 #include <stdint.h>

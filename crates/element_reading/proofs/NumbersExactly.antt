@@ -1,5 +1,5 @@
 -- What `element_at` finds keeps its promise: 01's four numbers of it, the fifth, and the element's words, stand in 01's row for the place,
--- and in no other.
+-- and in no other; and its flag says whether the octets read are canonical.
 -- Assumes nothing.
 use Prim.Native.Nat.{ℕ, _+_, _-_}
 use mathlib.Core.Path.{_≡_, refl, sym, ap, ap₂, _∙_, subst, subst₂}
@@ -85,8 +85,6 @@ module _ (f : Form) (text : List ℕ) (at : ℕ) where
       → ElementRow f text at a ws ↔ ((stepReading (stepAt f text at) ≡ a) × (stepWords (stepAt f text at) ≡ ws))
   step-exactly a ws = (row-step, λ e. subst₂ (ElementRow f text at) (e .0) (e .1) step-row)
 
-  -- The flag of an element that is read holds exactly where the octets read, from its place up to the one after it, are its canonical
-  -- spelling.
   flag-by : (h : Head Element) → headIn f (drop at text) ≡ h → (e : Element) (next : ℕ) (b : Bool) → Read e next b ≡ step h
       → (b ≡ true) ↔ CanonicalElement f (take (next - at) (drop at text)) e
   flag-by (element e₀ k) q e next b z =
@@ -102,6 +100,8 @@ module _ (f : Form) (text : List ℕ) (at : ℕ) where
   flag-by (refused r d) q e next b z = let w : _≡_ {A = ℕ} 0 1 = cc in absurd (omega arith)
   flag-by none q e next b z = let w : _≡_ {A = ℕ} 0 1 = cc in absurd (omega arith)
 
+  -- The flag of an element that is read holds exactly where the octets read, from its place up to the one after it, are its canonical
+  -- spelling.
   pub flag-exactly : (e : Element) (next : ℕ) (b : Bool) → ElementAtPromise f text at (Read e next b)
       → (b ≡ true) ↔ CanonicalElement f (take (next - at) (drop at text)) e
   unfolding stepAt

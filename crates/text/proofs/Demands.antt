@@ -916,7 +916,7 @@ module _ (source second third : ℕ) (text out last : List ℕ) where
 
 -- ======== Document 02, No. 5: what a reading carries, and a conversion
 
--- Of a reading it is at most the number of elements;
+-- Of a reading the fifth number is at most the number of elements;
 pub read-few : (form : ℕ) (text words : List ℕ) {r : ReadAnswer} {after : List ℕ} → ReadPromise form text words r after
     → r .answer .number ≡ 0 → r .respelled ≤ r .answer .element
 read-few form text words p z =
