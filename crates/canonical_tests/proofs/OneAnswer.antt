@@ -8,7 +8,7 @@ use Rattle.run.specs.Choice.{pick}
 use Rattle.run.specs.OneAnswer.{Once}
 use Rattle.run.proofs.OneAnswer.{once}
 use Rattle.sorts.specs.declared.Form.{Form}
-use Rattle.sequence_spelling.specs.SequenceOctets.{zeroFree}
+use Rattle.sequence_spelling.specs.SequenceOctets.{canonicalBehind}
 use Rattle.canonical_tests.specs.Tests.{wordCanonical}
 use Rattle.canonical_tests.specs.Promises.{WordIsCanonicalPromise, SequenceIsCanonicalPromise, NotCanonicalPromise}
 
@@ -18,6 +18,6 @@ pub one-answer : (form : Form) (word last size : ℕ) (octets : List ℕ) (canon
     × Once (NotCanonicalPromise canonical)
 one-answer form word last size octets canonical = (
   once (WordIsCanonicalPromise form word last size) (wordCanonical form word last size) (λ r p. p),
-  once (SequenceIsCanonicalPromise octets) (zeroFree true (drop 1 octets)) (λ r p. p),
+  once (SequenceIsCanonicalPromise octets) (canonicalBehind true (drop 1 octets)) (λ r p. p),
   once (NotCanonicalPromise canonical) (pick canonical 0 1) (λ r p. p),
 )

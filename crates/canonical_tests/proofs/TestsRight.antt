@@ -25,7 +25,7 @@ use Rattle.squares.specs.Squares.{Square, sq, squareOf, squares, character, pai
 use Rattle.spelling.specs.CanonicalSpelling.{octetsOf}
 use Rattle.spelling.specs.SpellingGiven.{spellIn}
 use Rattle.sequence_reading.specs.Grammar.{Sequence, SpellsSequence}
-use Rattle.sequence_spelling.specs.SequenceOctets.{zeroFree, spellSequence}
+use Rattle.sequence_spelling.specs.SequenceOctets.{canonicalBehind, spellSequence}
 use Rattle.element_words.specs.declared.Element.the-variants.{One}
 use Rattle.element_words.specs.Words.{underlinedFrom, controlsFrom, graphicWord, controlWord, sequenceElement}
 use Rattle.element_spelling.specs.ElementOctets.{afterCC, spellElement, isCanonical}
@@ -38,7 +38,7 @@ use Rattle.squares.proofs.TableRule.{filled-member}
 use Rattle.spelling.proofs.CanonicalExactly.{mark-first, shifted-mark-first}
 use Rattle.sequence_spelling.proofs.Back.{spelt-fine}
 use Rattle.sequence_spelling.proofs.Exactly.{canonical-exactly}
-use Rattle.sequence_spelling.proofs.ZeroFree.{zero-free}
+use Rattle.sequence_spelling.proofs.CanonicalBehind.{canonical-behind}
 use Rattle.element_spelling.proofs.Writer.{spell-graphic, spell-underlined, spell-control, spell-sequence}
 
 -- ---- the tests of a form's tables
@@ -222,11 +222,11 @@ module _ (f : Form) where
       ∙ sym (ap (sameOctets (o ∷ [])) (spell-control f o (omega (arith, control-small f o e)) e) ∙ are-same-octets (o ∷ []))
 
   pub sequence-test : (o : ℕ) (p : List ℕ) (q : Sequence) → sortIn f o ≡ SequenceStart → SpellsSequence (o ∷ p) q
-      → zeroFree true p ≡ isCanonical f (o ∷ p) (sequenceElement q)
+      → canonicalBehind true p ≡ isCanonical f (o ∷ p) (sequenceElement q)
   sequence-test o p q k h =
       let fine = spelt-fine h in
       let starts : sortIn f CSI ≡ SequenceStart = sym (ap (sortIn f) (sequence-is f o k)) ∙ k in
       let given : spellElement f (sequenceElement q) ≡ spellSequence q = spell-sequence f q fine ∙ rw starts refl in
-      alike-tests (zeroFree true p) (isCanonical f (o ∷ p) (sequenceElement q))
-      (λ z. ap (sameOctets (o ∷ p)) (given ∙ sym (canonical-exactly (o ∷ p) q .0 (zero-free h .0 z) .1)) ∙ are-same-octets (o ∷ p))
-      (λ z. zero-free h .1 (canonical-exactly (o ∷ p) q .1 (fine, same-octets-are (o ∷ p) _ z ∙ given)))
+      alike-tests (canonicalBehind true p) (isCanonical f (o ∷ p) (sequenceElement q))
+      (λ z. ap (sameOctets (o ∷ p)) (given ∙ sym (canonical-exactly (o ∷ p) q .0 (canonical-behind h .0 z) .1)) ∙ are-same-octets (o ∷ p))
+      (λ z. canonical-behind h .1 (canonical-exactly (o ∷ p) q .1 (fine, same-octets-are (o ∷ p) _ z ∙ given)))

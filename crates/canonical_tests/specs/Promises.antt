@@ -8,16 +8,16 @@ use mathlib.Core.List.{List}
 use lib.ListN.{drop}
 use Rattle.run.specs.Choice.{pick}
 use Rattle.sorts.specs.declared.Form.{Form}
-use Rattle.sequence_spelling.specs.SequenceOctets.{zeroFree}
+use Rattle.sequence_spelling.specs.SequenceOctets.{canonicalBehind}
 use Rattle.canonical_tests.specs.Tests.{wordCanonical}
 
 -- of an element of one word, by the word, the last of its octets, and how many they are
 abbrev pub WordIsCanonicalPromise : Form → ℕ → ℕ → ℕ → Bool → Type 0
 WordIsCanonicalPromise form word last size r = r ≡ wordCanonical form word last size
 
--- of a control sequence, by its octets up to its final
+-- of a control sequence, by its octets
 abbrev pub SequenceIsCanonicalPromise : List ℕ → Bool → Type 0
-SequenceIsCanonicalPromise octets r = r ≡ zeroFree true (drop 1 octets)
+SequenceIsCanonicalPromise octets r = r ≡ canonicalBehind true (drop 1 octets)
 
 -- what an element adds to the number of those that are not canonical
 abbrev pub NotCanonicalPromise : Bool → ℕ → Type 0

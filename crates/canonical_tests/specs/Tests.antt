@@ -1,5 +1,5 @@
 -- Parts of the code: how it is told of octets that spell an element whether they are its canonical spelling (proofs/TestsRight). Of a
--- control sequence it is `zeroFree` of crate `sequence_spelling`.
+-- control sequence it is `canonicalBehind` of crate `sequence_spelling`.
 -- Assumes nothing.
 use Prim.Native.Nat.{ℕ}
 use mathlib.Core.Bool.{Bool, true, false}

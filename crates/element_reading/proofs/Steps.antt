@@ -26,7 +26,7 @@ use Rattle.sequence_reading.specs.Grammar.{Sequence}
 use Rattle.sequence_reading.specs.EightValues.{valuesOf}
 use Rattle.sequence_reading.specs.SequenceHead.{sequenceHead, readingOf, readingAt}
 use Rattle.sequence_reading.proofs.Reader.{sequence-reads, read-eight}
-use Rattle.sequence_spelling.specs.SequenceOctets.{zeroFree}
+use Rattle.sequence_spelling.specs.SequenceOctets.{canonicalBehind}
 use Rattle.canonical_tests.specs.Tests.{wordCanonical}
 use Rattle.element_reading.specs.declared.Step.the-variants.{Element as Read, Refused as Stopped, End}
 use Rattle.element_words.specs.Words.{sequencesFrom}
@@ -39,7 +39,7 @@ use Rattle.element_reading.proofs.StepsRight.{step-right}
 -- ---- a control sequence
 module _ (at : ℕ) where
   whole-by : (f : Form) (text : List ℕ) (h : Head Sequence) (m l n k w : ℕ) (vs : Values) (b : Bool) → readingOf at h ≡ Whole m l n vs k
-      → w ≡ sequencesFrom + 0x10000 * m + 0x100 * l + n → b ≡ zeroFree true (drop 1 (take (k - 1 - at) (drop at text)))
+      → w ≡ sequencesFrom + 0x10000 * m + 0x100 * l + n → b ≡ canonicalBehind true (drop 1 (take (k - at) (drop at text)))
       → Read (SequenceOf w n vs) k b ≡ stepBy f text at (asElement h)
   whole-by f text (element q j) m l n k w vs b e z c =
       let em : q .middle ≡ m = cc in
@@ -48,9 +48,9 @@ module _ (at : ℕ) where
       let ev : valuesOf (q .values) ≡ vs = cc in
       let ek : at + j ≡ k = cc in
       let ew : w ≡ headWord q = omega arith in
-      let ej : k - 1 - at ≡ j - 1 = omega arith in
-      let eb : b ≡ zeroFree true (drop 1 (take (j - 1) (drop at text))) =
-      c ∙ ap (λ (i : ℕ). zeroFree true (drop 1 (take i (drop at text)))) ej in
+      let ej : k - at ≡ j = omega arith in
+      let eb : b ≡ canonicalBehind true (drop 1 (take j (drop at text))) =
+      c ∙ ap (λ (i : ℕ). canonicalBehind true (drop 1 (take i (drop at text)))) ej in
       cc
   whole-by f text (refused r d) m l n k w vs b e z c = let y : _≡_ {A = ℕ} 0 1 = cc in absurd (omega arith)
   whole-by f text none m l n k w vs b e z c = let y : _≡_ {A = ℕ} 0 1 = cc in absurd (omega arith)
@@ -80,7 +80,7 @@ module _ (at : ℕ) where
 
   module _ (text : List ℕ) where
     pub sequence-whole : (m l n k w : ℕ) (vs : Values) (b : Bool) → readingAt text at ≡ Whole m l n vs k
-        → w ≡ sequencesFrom + 0x10000 * m + 0x100 * l + n → b ≡ zeroFree true (drop 1 (take (k - 1 - at) (drop at text)))
+        → w ≡ sequencesFrom + 0x10000 * m + 0x100 * l + n → b ≡ canonicalBehind true (drop 1 (take (k - at) (drop at text)))
         → (f : Form) → Read (SequenceOf w n vs) k b ≡ stepBy f text at (asElement (sequenceHead (drop at text)))
     unfolding readingAt
     sequence-whole m l n k w vs b e z c f = whole-by f text (sequenceHead (drop at text)) m l n k w vs b e z c

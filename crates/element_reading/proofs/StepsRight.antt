@@ -7,13 +7,12 @@ use mathlib.Core.Bool.{true}
 use mathlib.Core.List.{List, _∷_, _++_}
 use native.Mathlib.Omega.{arith}
 use lib.ListN.{length, take, drop, getD}
-use lib.Seq.{getD-drop}
+use lib.Seq.{getD-drop, take-append-seam}
 use Rattle.run.specs.Head.{Head, element, refused, none}
 use Rattle.run.specs.Tagged.{tagHead}
 use Rattle.run.proofs.Outcomes.{front-taken}
 use Rattle.sorts.specs.declared.Form.{Form}
-use Rattle.sequence_spelling.specs.SequenceOctets.{zeroFree}
-use Rattle.sequence_spelling.proofs.ZeroFree.{last-free}
+use Rattle.sequence_spelling.specs.SequenceOctets.{canonicalBehind}
 use Rattle.element_words.specs.declared.Element.{Element}
 use Rattle.element_words.specs.Words.{graphicWord, controlWord}
 use Rattle.element_spelling.specs.ElementOctets.{isCanonical}
@@ -49,7 +48,9 @@ module _ (f : Form) (text : List ℕ) (at : ℕ) where
       word-at q (graphicWord true c) 3 2 (omega arith) ∙ underlined-pair-test f u o m l c k e z
   spelt-test t (Spells.control {o} e) q = word-at q (controlWord o) 1 0 (omega arith) ∙ control-test f o e
   spelt-test t (Spells.sequence {o} {p} {q = sq} k h) q =
-      ap (λ (l : List ℕ). zeroFree true (drop 1 (take (length (o ∷ p) - 1) l))) q ∙ last-free h t ∙ sequence-test f o p sq k h
+      ap (λ (l : List ℕ). canonicalBehind true (drop 1 (take (length (o ∷ p)) l))) q
+      ∙ ap (λ (l : List ℕ). canonicalBehind true (drop 1 l)) (take-append-seam (o ∷ p) t)
+      ∙ sequence-test f o p sq k h
 
   -- of the element found at a place
   found-test : (e : Element) (k : ℕ) → headIn f (drop at text) ≡ element e k

@@ -7,7 +7,7 @@ use mathlib.Core.List.{List}
 use lib.ListN.{take, drop, getD}
 use Rattle.run.specs.Head.{Head, element, refused, none}
 use Rattle.sorts.specs.declared.Form.{Form}
-use Rattle.sequence_spelling.specs.SequenceOctets.{zeroFree}
+use Rattle.sequence_spelling.specs.SequenceOctets.{canonicalBehind}
 use Rattle.element_words.specs.declared.Element.{Element}
 use Rattle.element_words.specs.declared.Element.the-variants.{One, Sequence as SequenceOf}
 use Rattle.canonical_tests.specs.Tests.{wordCanonical}
@@ -17,7 +17,7 @@ use Rattle.element_reading.specs.declared.Step.the-variants.{Element as 
 -- of an element of k octets that stands at the place `at` of a text
 abbrev pub testBy : Form → List ℕ → ℕ → Element → ℕ → Bool
 testBy f text at (One w) k = wordCanonical f w (getD text (at + k - 1) 0) k
-testBy f text at (SequenceOf h n vs) k = zeroFree true (drop 1 (take (k - 1) (drop at text)))
+testBy f text at (SequenceOf h n vs) k = canonicalBehind true (drop 1 (take k (drop at text)))
 
 abbrev pub stepBy : Form → List ℕ → ℕ → Head Element → Step
 stepBy f text at (element e k) = Read e (at + k) (testBy f text at e k)

@@ -157,7 +157,7 @@ fn sequence_step(text: &[u8], at: usize) -> Step
                 values,
             },
             next,
-            canonical_tests::sequence_is_canonical(&text[at..next - 1]),
+            canonical_tests::sequence_is_canonical(&text[at..next]),
         ),
         Reading::Refused { number, deciding } => refused_at(number, at, deciding),
         Reading::End => Step::End,

@@ -2,7 +2,7 @@
 -- Assumes nothing.
 use Prim.Native.Nat.{ℕ, _+_, _-_, _≤_}
 use mathlib.Core.Path.{_≡_, refl, sym, ap, _∙_, subst, subst₂}
-use mathlib.Core.Logic.{_↔_, inl, inr, ⊎-elim}
+use mathlib.Core.Logic.{_↔_, _⊎_, inl, inr, ⊎-elim}
 use mathlib.Core.Bool.{Bool, true, false}
 use mathlib.Core.List.{List, [], _∷_}
 use native.Mathlib.Nat.{add-zero}
@@ -20,12 +20,12 @@ use Rattle.sorts.specs.Forms.{CSI}
 use Rattle.sequence_reading.specs.declared.Kind.{Kind}
 use Rattle.sequence_reading.specs.declared.Kind.the-variants.{Digit, Separator, Middle, Final, Other}
 use Rattle.sequence_reading.specs.declared.Reading.{Reading}
-use Rattle.sequence_reading.specs.Kinds.{kindOf, kindNumber, kindValue, OfNoSequence, KindRow}
+use Rattle.sequence_reading.specs.Kinds.{countsAs, kindCounted, kindOf, kindNumber, kindValue, CountsAs, NoneOfThese}
+use Rattle.sequence_reading.specs.Kinds.{CountedRow, KindRow, OfNoSequence}
 use Rattle.sequence_reading.specs.Grammar.{Sequence, RefusesSequence}
 use Rattle.sequence_reading.specs.SequenceHead.{sequenceHead, readingOf, readingAt}
 use Rattle.sequence_reading.specs.SequenceNumbers.{readingAnswer, sequenceRead, SequenceRow}
 use Rattle.sequence_reading.specs.Promises.{KindOfPromise, ReadSequencePromise}
-use Rattle.sequence_reading.proofs.Steps.{kind-separator, kind-middle, kind-final}
 use Rattle.sequence_reading.proofs.Reach.{Tells, refusal-found}
 use Rattle.sequence_reading.proofs.Reader.{Beginning, nothing, foreign, told, beginning, foreign-refused, sequence-reads, read-eight}
 use Rattle.sequence_reading.proofs.EightValues.{values-back}
@@ -47,52 +47,80 @@ not-within lo hi n f = go (within lo hi n) refl
     go true e = absurd (f (within-range lo hi n e))
     go false e = refl
 
-module _ (b : ℕ) where
+-- what an octet counts as, of the lower half
+module _ (c : ℕ) where
   abbrev Row : Kind → Type 0
-  Row k = KindRow b k (kindNumber k) (kindValue k)
+  Row k = CountedRow c k (kindNumber k) (kindValue k)
 
-  kind-row : Row (kindOf b)
-  unfolding kindOf
-  kind-row =
-      pick-case Row (within 0x30 0x39 b) _ _ (λ t. let r = within-range 0x30 0x39 b t in KindRow.digit (r .0) (r .1))
-      (λ d. pick-case Row (eqb b 0x3B) _ _ (λ t. KindRow.separator (eqb-true b 0x3B t))
-      (λ s. pick-case Row (within 0x20 0x2F b) _ _ (λ t. KindRow.intermediate (within-range 0x20 0x2F b t))
-      (λ m. pick-case Row (within 0x40 0x7E b) _ _ (λ t. KindRow.final (within-range 0x40 0x7E b t))
-      (λ f. KindRow.no-octet (⊎-elim (out-of 0x30 0x39 b d) (eqb-false b 0x3B s), out-of 0x20 0x2F b m, out-of 0x40 0x7E b f)))))
+  counted-row : Row (kindCounted c)
+  counted-row =
+      pick-case Row (within 0x30 0x39 c) _ _ (λ t. let r = within-range 0x30 0x39 c t in CountedRow.digit (r .0) (r .1))
+      (λ d. pick-case Row (eqb c 0x3B) _ _ (λ t. CountedRow.separator (eqb-true c 0x3B t))
+      (λ s. pick-case Row (within 0x20 0x2F c) _ _ (λ t. CountedRow.intermediate (within-range 0x20 0x2F c t))
+      (λ m. pick-case Row (within 0x40 0x7E c) _ _ (λ t. CountedRow.final (within-range 0x40 0x7E c t))
+      (λ f. CountedRow.no-octet (⊎-elim (out-of 0x30 0x39 c d) (eqb-false c 0x3B s), out-of 0x20 0x2F c m, out-of 0x40 0x7E c f)))))
 
-  -- what an octet's kind is, and with it its number and value
-  abbrev Tells-kind : Kind → ℕ → ℕ → Type 0
-  Tells-kind k n v = (kindOf b ≡ k) × (kindNumber (kindOf b) ≡ n) × (kindValue (kindOf b) ≡ v)
-
-  as-kind : (k : Kind) → kindOf b ≡ k → Tells-kind k (kindNumber k) (kindValue k)
-  as-kind k e = (e, ap kindNumber e, ap kindValue e)
-
-  other-kind : OfNoSequence b → kindOf b ≡ Other
-  unfolding kindOf
+  other-kind : NoneOfThese c → kindCounted c ≡ Other
   other-kind n =
       rw (
-        not-within 0x30 0x39 b (λ h. n .0 (inl h)),
-        ne-eqb b 0x3B (λ h. n .0 (inr h)),
-        not-within 0x20 0x2F b (n .1),
-        not-within 0x40 0x7E b (n .2),
+        not-within 0x30 0x39 c (λ h. n .0 (inl h)),
+        ne-eqb c 0x3B (λ h. n .0 (inr h)),
+        not-within 0x20 0x2F c (n .1),
+        not-within 0x40 0x7E c (n .2),
       )
 
-  row-kind : {k : Kind} {n v : ℕ} → KindRow b k n v → Tells-kind k n v
-  row-kind (KindRow.digit h g) =
-      as-kind (Digit (b - 0x30)) (range.within kindOf (λ o. Digit (o - 0x30)) 0x30 0x3A (unfold kindOf in refl) b h (omega arith))
-  row-kind (KindRow.separator q) = as-kind Separator (ap kindOf q ∙ kind-separator)
-  row-kind (KindRow.intermediate r) = as-kind (Middle b) (kind-middle b (r .0) (r .1))
-  row-kind (KindRow.final r) = as-kind (Final b) (kind-final b (r .0) (r .1))
-  row-kind (KindRow.no-octet n) = as-kind Other (other-kind n)
+  row-counted : {k : Kind} {n v : ℕ} → CountedRow c k n v → (kindCounted c ≡ k) × (kindNumber k ≡ n) × (kindValue k ≡ v)
+  row-counted (CountedRow.digit h g) =
+      (range.within kindCounted (λ o. Digit (o - 0x30)) 0x30 0x3A refl c h (omega arith), refl, refl)
+  row-counted (CountedRow.separator q) = (ap kindCounted q, refl, refl)
+  row-counted (CountedRow.intermediate r) = (range.within kindCounted Middle 0x20 0x30 refl c (r .0) (omega (arith, r .1)), refl, refl)
+  row-counted (CountedRow.final r) = (range.within kindCounted Final 0x40 0x7F refl c (r .0) (omega (arith, r .1)), refl, refl)
+  row-counted (CountedRow.no-octet n) = (other-kind n, refl, refl)
 
-  row-6 : {k : Kind} {n v : ℕ} → KindRow b k n v → n ≡ 6 → OfNoSequence b
-  row-6 (KindRow.digit h g) e = absurd (omega arith)
-  row-6 (KindRow.separator q) e = absurd (omega arith)
-  row-6 (KindRow.intermediate r) e = absurd (omega arith)
-  row-6 (KindRow.final r) e = absurd (omega arith)
-  row-6 (KindRow.no-octet n) e = n
+  row-6 : {k : Kind} {n v : ℕ} → CountedRow c k n v → n ≡ 6 → NoneOfThese c
+  row-6 (CountedRow.digit h g) e = absurd (omega arith)
+  row-6 (CountedRow.separator q) e = absurd (omega arith)
+  row-6 (CountedRow.intermediate r) e = absurd (omega arith)
+  row-6 (CountedRow.final r) e = absurd (omega arith)
+  row-6 (CountedRow.no-octet n) e = n
 
--- An octet's kind, its number and its value are exactly those of 01's row.
+module _ (b : ℕ) where
+  counts : CountsAs b (countsAs b)
+  counts =
+      pick-case (CountsAs b) (within 0xA1 0xFE b) (b - 0x80) b
+      (λ t. CountsAs.lowered (within-range 0xA1 0xFE b t))
+      (λ t. CountsAs.itself (out-of 0xA1 0xFE b t))
+
+  counts-as : {c : ℕ} → CountsAs b c → countsAs b ≡ c
+  counts-as (CountsAs.itself n) = rw (not-within 0xA1 0xFE b n)
+  counts-as (CountsAs.lowered r) = rw (le-leb 0xA1 b (r .0), le-leb b 0xFE (r .1))
+
+  -- An octet behind 9B counts as itself, or as the octet 80 below, exactly as document 02 says.
+  pub counts-exactly : (c : ℕ) → CountsAs b c ↔ (countsAs b ≡ c)
+  counts-exactly c = (counts-as, λ e. subst (CountsAs b) e counts)
+
+  abbrev Told-kind : Kind → Type 0
+  Told-kind k = KindRow b k (kindNumber k) (kindValue k)
+
+  kind-row : Told-kind (kindOf b)
+  unfolding kindOf
+  kind-row = (countsAs b, counts, counted-row (countsAs b))
+
+  -- So its kind is that of what it counts as; outside A1 to FE, of itself, by document 01 alone.
+  pub as-counted : {c : ℕ} → CountsAs b c → kindOf b ≡ kindCounted c
+  unfolding kindOf
+  as-counted h = ap kindCounted (counts-as h)
+
+  row-kind : {k : Kind} {n v : ℕ} → KindRow b k n v → (kindOf b ≡ k) × (kindNumber (kindOf b) ≡ n) × (kindValue (kindOf b) ≡ v)
+  row-kind r =
+      let t = row-counted (r .0) (r .2) in
+      let e = as-counted (r .1) ∙ t .0 in
+      (e, ap kindNumber e ∙ t .1, ap kindValue e ∙ t .2)
+
+  none-kind : OfNoSequence b → kindOf b ≡ Other
+  none-kind n = as-counted (n .1) ∙ other-kind (n .0) (n .2)
+
+-- An octet's kind, its number and its value are exactly those of 01's row for what it counts as.
 pub kind-exactly : (b : ℕ) (k : Kind) (n v : ℕ)
     → KindRow b k n v ↔ ((kindOf b ≡ k) × (kindNumber (kindOf b) ≡ n) × (kindValue (kindOf b) ≡ v))
 kind-exactly b k n v = (
@@ -103,10 +131,22 @@ kind-exactly b k n v = (
 
 -- 6 is given exactly for what is no octet of a sequence.
 pub kind-6-exactly : (b : ℕ) → (kindNumber (kindOf b) ≡ 6) ↔ OfNoSequence b
-kind-6-exactly b = (row-6 b (kind-row b), λ n. row-kind b (KindRow.no-octet n) .1)
+kind-6-exactly b = (
+  λ e. let r = kind-row b in (r .0, r .1, row-6 (r .0) (r .2) e),
+  λ n. ap kindNumber (none-kind b n),
+)
 
 pub kind-kept : (b : ℕ) (r : Kind) → r ≡ kindOf b → KindOfPromise b r
-kind-kept b r e = (e, subst (Row b) (sym e) (kind-row b), subst (λ (k : Kind). (kindNumber k ≡ 6) ↔ OfNoSequence b) (sym e) (kind-6-exactly b))
+kind-kept b r e =
+    (e, subst (Told-kind b) (sym e) (kind-row b), subst (λ (k : Kind). (kindNumber k ≡ 6) ↔ OfNoSequence b) (sym e) (kind-6-exactly b))
+
+-- "A0 and FF stay refused as 6", and so do 7F and 80 to 9F, 9B among them.
+pub stays-6 : (b : ℕ) → ((0x7F ≤ b) × (b ≤ 0xA0)) ⊎ (b ≡ 0xFF) → kindOf b ≡ Other
+stays-6 b h =
+    ⊎-elim
+    (λ r. range.within kindOf (λ o. Other) 0x7F 0xA1 (unfold kindOf in refl) b (r .0) (omega (arith, r .1)))
+    (λ e. range.within kindOf (λ o. Other) 0xFF 0x100 (unfold kindOf in refl) b (omega arith) (omega arith))
+    h
 
 -- ---- the sequence at a place
 

@@ -13,7 +13,7 @@ use Rattle.sequence_reading.specs.declared.Kind.the-variants.{Digit, Sep
 use Rattle.sequence_reading.specs.declared.Scan.{Scan}
 use Rattle.sequence_reading.specs.declared.Next.{Next}
 use Rattle.sequence_reading.specs.declared.Next.the-variants.{More, Value, Bad}
-use Rattle.sequence_reading.specs.Kinds.{kindOf}
+use Rattle.sequence_reading.specs.Kinds.{countsAs, kindCounted, kindOf}
 use Rattle.sequence_reading.specs.SequenceHead.{unlessLate, unlessFull, kindStep, digitStep, valueStep, middleStep, stepOf}
 
 -- ---- a kind
@@ -39,13 +39,16 @@ Carries (Middle i) = (0x20 ≤ i) × (i ≤ 0x2F)
 Carries (Final f) = (0x40 ≤ f) × (f ≤ 0x7E)
 Carries Other = Unit {0}
 
+counted-carries : (c : ℕ) → Carries (kindCounted c)
+counted-carries c =
+    pick-case Carries (within 0x30 0x39 c) (Digit (c - 0x30)) _ (λ u. tt)
+    (λ u. pick-case Carries (eqb c 0x3B) Separator _ (λ u. tt)
+    (λ u. pick-case Carries (within 0x20 0x2F c) (Middle c) (pick (within 0x40 0x7E c) (Final c) Other) (within-range 0x20 0x2F c)
+    (λ u. pick-case Carries (within 0x40 0x7E c) (Final c) Other (within-range 0x40 0x7E c) (λ u. tt))))
+
 carries : (b : ℕ) → Carries (kindOf b)
 unfolding kindOf
-carries b =
-    pick-case Carries (within 0x30 0x39 b) (Digit (b - 0x30)) _ (λ u. tt)
-    (λ u. pick-case Carries (eqb b 0x3B) Separator _ (λ u. tt)
-    (λ u. pick-case Carries (within 0x20 0x2F b) (Middle b) (pick (within 0x40 0x7E b) (Final b) Other) (within-range 0x20 0x2F b)
-    (λ u. pick-case Carries (within 0x40 0x7E b) (Final b) Other (within-range 0x40 0x7E b) (λ u. tt))))
+carries b = counted-carries (countsAs b)
 
 -- an intermediate and a final carry what may stand there
 pub middle-says : (b i : ℕ) → kindOf b ≡ Middle i → (0x20 ≤ i) × (i ≤ 0x2F)

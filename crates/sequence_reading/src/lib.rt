@@ -61,15 +61,19 @@ pub enum Reading {
     End,
 }
 
-// 01: "parameter octets (30 to 39, 3B), at most one intermediate (20 to 2F), one final (40 to 7E)".
+// 01: "parameter octets (30 to 39, 3B), at most one intermediate (20 to 2F), one final (40 to 7E)". 02, No. 6: A1 to FE "count as 21 to 7E
+// for every rule of 01".
 pub fn kind_of(b: u8) -> Kind
     ensures { λ r. ⌜ KindOfPromise b r ⌝ }
 {
     match b {
         0x30..=0x39 => Kind::Digit(b - 0x30),
-        0x3B => Kind::Separator,
+        0xB0..=0xB9 => Kind::Digit(b - 0xB0),
+        0x3B | 0xBB => Kind::Separator,
         0x20..=0x2F => Kind::Middle(b),
+        0xA1..=0xAF => Kind::Middle(b - 0x80),
         0x40..=0x7E => Kind::Final(b),
+        0xC0..=0xFE => Kind::Final(b - 0x80),
         _ => Kind::Other,
     }
 }

@@ -1,5 +1,5 @@
 pub mod Exactly
 mod Puts
 pub mod Back
-pub mod ZeroFree
+pub mod CanonicalBehind
 pub mod OneAnswer

@@ -1,5 +1,5 @@
 -- To be believed, as a relation in document 01's words: the canonical spelling of a control sequence. Proved equal to that, the definition
--- that gives it (Exactly: canonical-exactly, fine-test), and the test of octets that spell a sequence (ZeroFree: zero-free).
+-- that gives it (Exactly: canonical-exactly, fine-test), and the test of octets that spell a sequence (CanonicalBehind: canonical-behind).
 -- Assumes nothing.
 use Prim.Native.Nat.{ℕ, _+_, _*_, _/_, _%_, _≤_, _<_}
 use mathlib.Core.Path.{_≡_}
@@ -13,7 +13,8 @@ use Rattle.run.specs.Put.{whatFits}
 use Rattle.sorts.specs.Forms.{CSI}
 use Rattle.sequence_reading.specs.Grammar.{Sequence, Small}
 
--- ---- the relation: "Values have no leading zeros, 0 is the empty sub-string, and the number of values is kept."
+-- ---- the relation: "Values have no leading zeros, 0 is the empty sub-string, and the number of values is kept." 02, No. 6: "Canonical
+-- spelling uses the lower half": the octets 21 to 7E themselves.
 
 -- a value without leading zeros; 0 is the empty sub-string
 pub data Numeral : List ℕ → ℕ → Type 0 where
@@ -98,9 +99,12 @@ sizeOf q = pick (isFine q) (length (spellSequence q)) 0
 unfoldable pub putSequence : List ℕ → ℕ → Sequence → List ℕ
 putSequence out at q = pick (isFine q) (whatFits out at (spellSequence q)) []
 
--- ---- the test of a canonical spelling, of octets that spell a sequence
+-- ---- the test of a canonical spelling, of octets that spell a sequence, behind their 9B
 
--- no value begins with the digit 0: "Values have no leading zeros, 0 is the empty sub-string"; `begins`: a value begins here
-abbrev pub zeroFree : Bool → List ℕ → Bool
-zeroFree begins [] = true
-zeroFree begins (b ∷ s) = let more = zeroFree (eqb b 0x3B) s in pick (pick begins (eqb b 0x30) false) false more
+-- each octet is of the lower half: 02, No. 6: "Canonical spelling uses the lower half"; and no value begins with the digit 0: "Values have no
+-- leading zeros, 0 is the empty sub-string"; `begins`: a value begins here
+abbrev pub canonicalBehind : Bool → List ℕ → Bool
+canonicalBehind begins [] = true
+canonicalBehind begins (b ∷ s) =
+    let more = canonicalBehind (eqb b 0x3B) s in
+    pick (leb 0x80 b) false (pick (pick begins (eqb b 0x30) false) false more)

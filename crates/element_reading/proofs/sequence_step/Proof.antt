@@ -27,9 +27,6 @@ head-word-requires c κs = inside (c .before) .0
 sub-sequence-is-canonical : tie.Need-sub-sequence-is-canonical
 sub-sequence-is-canonical c = omega (arith, inside (c .before .before) .1)
 
-sub-sequence-is-canonical-2 : tie.Need-sub-sequence-is-canonical-2
-sub-sequence-is-canonical-2 c = omega (arith, inside (c .before .before) .1)
-
 part-sequence-is-canonical-start : tie.Need-part-sequence-is-canonical-start
 part-sequence-is-canonical-start c = omega (arith, inside (c .before .before) .1)
 
@@ -73,7 +70,6 @@ sequence-step-spec =
     enum-known-reading
     head-word-requires
     sub-sequence-is-canonical
-    sub-sequence-is-canonical-2
     part-sequence-is-canonical-start
     part-sequence-is-canonical-end
     sequence-is-canonical-requires
