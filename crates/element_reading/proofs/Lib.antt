@@ -1,6 +1,7 @@
 pub mod Reader
 pub mod ReadBack
 pub mod Deciding
+pub mod Raised
 mod StepsRight
 mod Steps
 pub mod Sizes

@@ -1,4 +1,5 @@
 pub mod Grammar
+pub mod Raised
 pub mod ElementHead
 pub mod StepTests
 pub mod ElementNumbers

@@ -1,9 +1,10 @@
 -- What an octet's kind says of it, and what each kind does to a state.
 -- Assumes nothing.
 use Prim.Native.Nat.{ℕ, _+_, _*_, _-_, _≤_, _<_}
-use mathlib.Core.Path.{_≡_, refl}
+use mathlib.Core.Path.{_≡_, refl, sym}
+use mathlib.Core.Bool.{Bool, true, false}
 use native.Mathlib.Omega.{arith}
-use lib.Dec.{eqb}
+use lib.Dec.{leb, ltb, eqb}
 use borrow.Author.Tests.{le-leb, lt-leb, eq-eqb, ne-eqb}
 use Rattle.run.specs.Choice.{pick, within}
 use Rattle.run.proofs.Choices.{pick-case, within-range}
@@ -14,7 +15,7 @@ use Rattle.sequence_reading.specs.declared.Scan.{Scan}
 use Rattle.sequence_reading.specs.declared.Next.{Next}
 use Rattle.sequence_reading.specs.declared.Next.the-variants.{More, Value, Bad}
 use Rattle.sequence_reading.specs.Kinds.{countsAs, kindCounted, kindOf}
-use Rattle.sequence_reading.specs.SequenceHead.{unlessLate, unlessFull, kindStep, digitStep, valueStep, middleStep, stepOf}
+use Rattle.sequence_reading.specs.SequenceHead.{numberAt, unless, digitStep, valueStep, middleStep, kindStep, stepOf}
 
 -- ---- a kind
 
@@ -57,44 +58,55 @@ middle-says b i e = rw e at (carries b)
 pub final-says : (b f : ℕ) → kindOf b ≡ Final f → (0x40 ≤ f) × (f ≤ 0x7E)
 final-says b f e = rw e at (carries b)
 
--- ---- each outcome of a step, under conditions that `omega` can show
+-- ---- the number at an octet, and what each number makes of a step
 
 module _ (s : Scan) where
-  pub is-late : (n : Next) → (s .middle ≡ 0 → ⊥) → unlessLate s n ≡ Bad 6
-  is-late n m = simp (ne-eqb (s .middle) 0 m)
+  pub number-6 : (past : Bool) → (s .middle ≡ 0 → ⊥) → 6 ≡ numberAt s past
+  number-6 past m = sym (simp (ne-eqb (s .middle) 0 m))
 
-  pub not-late : (n : Next) → s .middle ≡ 0 → unlessLate s n ≡ n
-  not-late n m = simp (eq-eqb (s .middle) 0 m)
+  pub number-7 : (past : Bool) → s .middle ≡ 0 → past ≡ true → 7 ≡ numberAt s past
+  number-7 past m p = sym (simp (eq-eqb (s .middle) 0 m, p))
 
-  pub is-full : (n : Next) → 39 ≤ s .taken → unlessFull s n ≡ Bad 8
-  is-full n t = simp (le-leb 39 (s .taken) t)
+  pub number-8 : (past : Bool) → s .middle ≡ 0 → past ≡ false → 39 ≤ s .taken → 8 ≡ numberAt s past
+  number-8 past m p t = sym (simp (eq-eqb (s .middle) 0 m, p, le-leb 39 (s .taken) t))
 
-  pub not-full : (n : Next) → s .taken < 39 → unlessFull s n ≡ n
-  not-full n t = simp (lt-leb 39 (s .taken) t)
+  pub number-0 : (past : Bool) → s .middle ≡ 0 → past ≡ false → s .taken < 39 → 0 ≡ numberAt s past
+  number-0 past m p t = sym (simp (eq-eqb (s .middle) 0 m, p, lt-leb 39 (s .taken) t))
 
-  pub digit-passes : (d : ℕ) → 999 < s .current * 10 + d → digitStep s d ≡ unlessLate s (Bad 7)
-  unfolding digitStep
-  digit-passes d h = simp (lt-leb (s .current * 10 + d) 999 h)
+pub refused-so : (n m : ℕ) (x : Next) → n ≡ m → (n ≡ 0 → ⊥) → Bad n ≡ unless m x
+refused-so n m x e h = rw (← e) (sym (simp (ne-eqb n 0 h)))
 
-  pub digit-within : (d v : ℕ) → v ≡ s .current * 10 + d → v ≤ 999
-      → digitStep s d ≡ unlessLate s (unlessFull s (More (record { current = v; closed = s .closed; middle = 0; taken = s .taken + 1 })))
-  unfolding digitStep
-  digit-within d v e h = simp (e, le-leb (s .current * 10 + d) 999 (omega arith))
+pub taken-so : (n m : ℕ) (x : Next) → n ≡ m → n ≡ 0 → x ≡ unless m x
+taken-so n m x e h = rw (← e, h)
 
-  pub value-passes : 7 ≤ s .closed → valueStep s ≡ unlessLate s (Bad 7)
-  unfolding valueStep
-  value-passes h = simp (le-leb 7 (s .closed) h)
+-- a digit, a 3B and an intermediate, by the number that stands there
+module _ (s : Scan) (n : ℕ) where
+  module _ (d v : ℕ) (w : v ≡ s .current * 10 + d) (e : n ≡ numberAt s (ltb 999 v)) where
+    pub digit-refused : (n ≡ 0 → ⊥) → Bad n ≡ digitStep s d
+    unfolding digitStep
+    digit-refused h = rw (← w) (refused-so n _ _ e h)
 
-  pub value-within : s .closed < 7
-      → valueStep s ≡ unlessLate s (unlessFull s (Value (record { current = 0; closed = s .closed + 1; middle = 0; taken = s .taken + 1 })))
-  unfolding valueStep
-  value-within h = simp (lt-leb 7 (s .closed) h)
+    pub digit-taken : n ≡ 0 → More (record { current = v; closed = s .closed; middle = 0; taken = s .taken + 1 }) ≡ digitStep s d
+    unfolding digitStep
+    digit-taken h = rw (← w) (taken-so n _ _ e h)
 
-  pub middle-within : (i : ℕ)
-      → middleStep s i
-      ≡ unlessLate s (unlessFull s (More (record { current = s .current; closed = s .closed; middle = i; taken = s .taken + 1 })))
-  unfolding middleStep
-  middle-within i = refl
+  module _ (e : n ≡ numberAt s (leb 7 (s .closed))) where
+    pub value-refused : (n ≡ 0 → ⊥) → Bad n ≡ valueStep s
+    unfolding valueStep
+    value-refused h = refused-so n _ _ e h
+
+    pub value-taken : n ≡ 0 → Value (record { current = 0; closed = s .closed + 1; middle = 0; taken = s .taken + 1 }) ≡ valueStep s
+    unfolding valueStep
+    value-taken h = taken-so n _ _ e h
+
+  module _ (i : ℕ) (e : n ≡ numberAt s false) where
+    pub middle-refused : (n ≡ 0 → ⊥) → Bad n ≡ middleStep s i
+    unfolding middleStep
+    middle-refused h = refused-so n _ _ e h
+
+    pub middle-taken : n ≡ 0 → More (record { current = s .current; closed = s .closed; middle = i; taken = s .taken + 1 }) ≡ middleStep s i
+    unfolding middleStep
+    middle-taken h = taken-so n _ _ e h
 
 -- a step goes by the octet's kind
 pub step-as : (s : Scan) (b : ℕ) (k : Kind) → kindOf b ≡ k → stepOf s b ≡ kindStep k s

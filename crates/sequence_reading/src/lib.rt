@@ -2,7 +2,7 @@
 ghost use mathlib.Core.Path.{_≡_};
 ghost use Prim.Native.Nat.{_<_};
 ghost use lib.ListN.{set};
-ghost use Rattle.sequence_reading.specs.SequenceHead.{Fair, unlessLate, unlessFull, digitStep, valueStep, middleStep, stepOf};
+ghost use Rattle.sequence_reading.specs.SequenceHead.{Fair, numberAt, digitStep, valueStep, middleStep, stepOf};
 ghost use Rattle.sequence_reading.specs.EightValues.{listOf};
 ghost use Rattle.sequence_reading.specs.Promises.{KindOfPromise, ValueAtPromise, ReadSequencePromise};
 
@@ -78,59 +78,56 @@ pub fn kind_of(b: u8) -> Kind
     }
 }
 
-// 6 after an intermediate, where only a final is allowed; else what the octet does by itself.
-fn unless_late(s: Scan, n: Next) -> Next
-    ensures { λ r. ⌜ r ≡ unlessLate s n ⌝ }
+// 01: "at one octet 5 goes first, then 6, 7, 8", of an octet that is a parameter or an intermediate: 6 after an intermediate, where only a
+// final is allowed; 7 where it passes a limit of the values; 8, "the 40th octet of a sequence isn't its final"; else 0.
+fn number_at(s: Scan, passes: bool) -> usize
+    ensures { λ r. ⌜ r ≡ numberAt s passes ⌝ }
 {
     if s.middle != 0 {
-        return Next::Bad(6);
+        return 6;
     }
-    n
-}
-
-// 01: "the 40th octet of a sequence isn't its final".
-fn unless_full(s: Scan, n: Next) -> Next
-    ensures { λ r. ⌜ r ≡ unlessFull s n ⌝ }
-{
+    if passes {
+        return 7;
+    }
     if 39 <= s.taken {
-        return Next::Bad(8);
+        return 8;
     }
-    n
+    0
 }
 
-// 01: "the digit that passes 999", and "at one octet 5 goes first, then 6, 7, 8".
+// 01: "the digit that passes 999".
 fn digit_step(s: Scan, d: u8) -> Next
     requires { ⌜ Fair s ⌝ }
     ensures { λ r. ⌜ r ≡ digitStep s d ⌝ }
 {
     let v = s.current * 10 + d as u32;
-    if 999 < v {
-        return unless_late(s, Next::Bad(7));
+    let number = number_at(s, 999 < v);
+    if number != 0 {
+        return Next::Bad(number);
     }
-    let t = Scan {
+    Next::More(Scan {
         current: v,
         closed: s.closed,
         middle: 0,
         taken: s.taken + 1,
-    };
-    unless_late(s, unless_full(s, Next::More(t)))
+    })
 }
 
-// 01: "the 3B that opens a ninth value", in the same order.
+// 01: "the 3B that opens a ninth value".
 fn value_step(s: Scan) -> Next
     requires { ⌜ Fair s ⌝ }
     ensures { λ r. ⌜ r ≡ valueStep s ⌝ }
 {
-    if 7 <= s.closed {
-        return unless_late(s, Next::Bad(7));
+    let number = number_at(s, 7 <= s.closed);
+    if number != 0 {
+        return Next::Bad(number);
     }
-    let t = Scan {
+    Next::Value(Scan {
         current: 0,
         closed: s.closed + 1,
         middle: 0,
         taken: s.taken + 1,
-    };
-    unless_late(s, unless_full(s, Next::Value(t)))
+    })
 }
 
 // 01: "at most one intermediate".
@@ -138,13 +135,16 @@ fn middle_step(s: Scan, i: u8) -> Next
     requires { ⌜ Fair s ⌝ }
     ensures { λ r. ⌜ r ≡ middleStep s i ⌝ }
 {
-    let t = Scan {
+    let number = number_at(s, false);
+    if number != 0 {
+        return Next::Bad(number);
+    }
+    Next::More(Scan {
         current: s.current,
         closed: s.closed,
         middle: i,
         taken: s.taken + 1,
-    };
-    unless_late(s, unless_full(s, Next::More(t)))
+    })
 }
 
 // A final is taken anywhere; what is no octet of a sequence is 6.

@@ -178,3 +178,9 @@ passes-canonical (sequence {s} {vs} {m} {f} b h e) z =
 pub canonical-behind : {o : ℕ} {p : List ℕ} {q : Sequence} → SpellsSequence (o ∷ p) q
     → (canonicalBehind true p ≡ true) ↔ CanonicalSequence (o ∷ p) q
 canonical-behind h = (passes-canonical h, canonical-passes)
+
+-- "Canonical spelling uses the lower half": each octet of one, behind 9B, is below 80; so a sequence with an octet of the upper half is not
+-- spelt canonically.
+pub canonical-low : {o : ℕ} {p : List ℕ} {q : Sequence} → CanonicalSequence (o ∷ p) q → (s : List ℕ) (b : ℕ) (t : List ℕ) → p ≡ s ++ (b ∷ t)
+    → b < 0x80
+canonical-low h s b t e = low-at true s b t (ap (canonicalBehind true) (sym e) ∙ canonical-passes h)

@@ -30,11 +30,13 @@ use Rattle.sorts.specs.Forms.{formOf, inForm}
 use Rattle.element_words.specs.declared.Element.{Element}
 use Rattle.element_words.specs.Words.{wordsOf}
 use Rattle.element_reading.specs.Grammar.{Spells, Refuses}
+use Rattle.element_reading.specs.Raised.{Raised}
 use Rattle.element_reading.specs.declared.Step.the-variants.{Element as Read}
 use Rattle.element_reading.specs.ElementNumbers.{stepAnswer, stepReading, stepWords, ElementRow}
 use Rattle.element_spelling.specs.ElementOctets.{CanonicalElement, Held, Writes}
 use Rattle.element_reading.proofs.Reader.{reads}
 use Rattle.element_reading.proofs.ReadBack.{canonical-spells, read-held}
+use Rattle.element_reading.proofs.Raised.{raised-outcome, raised-length}
 use Rattle.element_reading.proofs.NumbersExactly.{element-row}
 use Rattle.element_reading.proofs.Places.{reading-number}
 use Rattle.element_spelling.proofs.Writer.{one-spelling, writer-reads, writer-refuses-exactly}
@@ -60,7 +62,7 @@ use Rattle.text.specs.DemandWords.{AllHeld, none, and, Converted, Conver
 use Rattle.text.specs.Promises.{WritePromise, ConvertPromise}
 use Rattle.text.proofs.OneAnswer as writing
 use Rattle.text.proofs.Respelling.{respell-reads}
-use Rattle.text.proofs.Converting.{converted, convert-meets, respelt-means, read-converts, Alike, respelt-alike}
+use Rattle.text.proofs.Converting.{converted, convert-meets, respelt-means, read-converts, Alike, respelt-alike, converts-raised}
 use Rattle.text.proofs.SixteenReadings.{sixteen}
 use Rattle.sorts.specs.Forms.{NoForm}
 use Rattle.sorts.proofs.FormNumbers.{none-exactly}
@@ -1032,6 +1034,43 @@ joined-carries source target s t within out₁ out₂ out p₁ z₁ p₂ z₂ ro
     accepted-carries _ _ (p .0) z
     ∙ joined-in source f (b .0 .1) s t (c .meaning) (c .means)
     ∙ sym (ap₂ _+_ (accepted-carries _ _ (p₁ .0) z₁) (accepted-carries _ _ (p₂ .0) z₂))
+
+-- ======== Document 02, No. 6: control sequences with the top bit set
+
+-- what comes of a number's form is the same where it is the same in each form
+same-in : {A : Type 0} (y : FormFound) (x : A) (k l : Form → A) → ((g : Form) → k g ≡ l g) → inForm y x k ≡ inForm y x l
+same-in (Is g) x k l h = h g
+same-in Nothing x k l h = refl
+
+module _ (form : ℕ) (f : Form) (is-form : formOf form ≡ Is f) {s t : List ℕ} (raised : Raised f s t) where
+  -- A text with any octets 21 to 7E of its sequences, behind their 9B, put into the upper half reads to the same words, or is refused with
+  -- the same number at the same element and octet;
+  pub raised-reads : (words : List ℕ) {q r : ReadAnswer} {w v : List ℕ} → ReadPromise form s words q w → ReadPromise form t words r v
+      → (q .answer ≡ r .answer) × (w ≡ v)
+  unfolding readAnswer readWords
+  raised-reads words p p′ =
+      let n = raised-length f raised in
+      let x = raised-outcome f raised in
+      let answers : readAnswer form s (length words) ≡ readAnswer form t (length words) =
+      rw is-form (ap₂ (λ (n : ℕ) (x : Outcome Element). pick (leb n limit) (answerOf wordsOf n (length words) x) (bare 12)) n x) in
+      let writes : readWords form s words ≡ readWords form t words =
+      rw is-form (ap₂ (λ (n : ℕ) (x : Outcome Element). pick (leb n limit) (writtenOf wordsOf words x) words) n x) in
+      (four (p .0) ∙ answers ∙ sym (four (p′ .0)), p .1 ∙ writes ∙ sym (p′ .1))
+
+  -- and it converts to the same octets, within its form too, or is refused the same.
+  pub raised-converts : (target : ℕ) (out : List ℕ) {q r : ReadAnswer} {w v : List ℕ} → ConvertPromise form target s out q w
+      → ConvertPromise form target t out r v → (q .answer ≡ r .answer) × (w ≡ v)
+  unfolding convertAnswer convertText
+  raised-converts target out p p′ =
+      let n = raised-length f raised in
+      let x : (g : Form) → convertIn f g s ≡ convertIn f g t = λ g. converts-raised f g raised in
+      let answers : convertAnswer form target s (length out) ≡ convertAnswer form target t (length out) =
+      rw is-form (same-in (formOf target) _ _ _
+      (λ g. ap₂ (λ (n : ℕ) (x : Outcome (List ℕ)). pick (leb n limit) (answerOf same n (length out) x) (bare 12)) n (x g))) in
+      let writes : convertText form target s out ≡ convertText form target t out =
+      rw is-form (same-in (formOf target) _ _ _
+      (λ g. ap₂ (λ (n : ℕ) (x : Outcome (List ℕ)). pick (leb n limit) (writtenOf same out x) out) n (x g))) in
+      (four (p .0) ∙ answers ∙ sym (four (p′ .0)), p .1 ∙ writes ∙ sym (p′ .1))
 
 -- ======== "Sixteen readings to prove": all of them and only these, as one table under one claim, by computation
 
