@@ -71,7 +71,7 @@ def some_sequence_spelling(words: Words, chance: random.Random) -> bytes:
     values = ";".join(value_octets(value, chance) for value in words[1:])
     intermediate = [head.intermediate] if head.intermediate else []
     octets = bytes((model.SEQUENCE_START, *values.encode("ascii"), *intermediate, head.final))
-    return octets if len(octets) <= model.MOST_OCTETS else canonical(3, [words])
+    return bytes(texts.some_half(octets, chance)) if len(octets) <= model.MOST_OCTETS else canonical(3, [words])
 
 
 def some_spelling(form: int, words: Words, chance: random.Random) -> bytes:
@@ -136,6 +136,9 @@ SEQUENCE_SPELLINGS = [
     [";m", "0;m", ";0m", "00;000m"],
     ["4m", "04m", "0" * 37 + "4m"],
     [" L", "0 L", "00 L"],
+    ["4m", "\xB4\xED", "4\xED", "\xB4m", "04\xED"],
+    ["!L", "\xA1L", "!\xCC", "\xA1\xCC"],
+    ["1;2m", "\xB1\xBB\xB2\xED", "1\xBB2m", "\xB1;\xB2m", "01\xBB\xB02\xED"],
     ["999;/~", "999;0/~", "0999;00/~"],
     [";;;;;;;@", "0;0;0;0;0;0;0;0@", ";;;;;;;0@", "0;;;;;;;@"],
     ["1;22;333;;5;66;777;8m", "01;022;0333;0;05;066;777;08m", "1;22;333;;5;66;0777;8m"],
@@ -143,7 +146,7 @@ SEQUENCE_SPELLINGS = [
 
 
 def sequence(text: str) -> bytes:
-    return bytes((model.SEQUENCE_START, *text.encode("ascii")))
+    return bytes((model.SEQUENCE_START, *text.encode("latin-1")))
 
 
 def alike_elements(form: int) -> Iterator[list[bytes]]:
@@ -311,6 +314,33 @@ def of_kind(kind: str, form: int) -> Iterator[Pair]:
         yield Pair(form, first, second)
 
 
+def in_half(elements: Iterable[Words], half: Callable[[bytes], Sequence[int]]) -> bytes:
+    """The canonical text of form 3, its sequences as the half has them."""
+    spellings = (canonical(3, [words]) for words in elements)
+    return b"".join(bytes(half(spelling)) if spelling[0] == model.SEQUENCE_START else spelling for spelling in spellings)
+
+
+def upper_pairs() -> Iterator[Pair]:
+    """Texts and the same with their sequences in the other half, which mean the same; with one element another; and refused ones."""
+    chance = random.Random(f"{SEED} upper")
+
+    def some(octets: bytes) -> Sequence[int]:
+        return model.raised(octets, lambda place: chance.randrange(2) == 0)
+
+    for _ in range(120):
+        elements = some_elements(3, chance.randrange(1, 8), chance)
+        elements.insert(chance.randrange(len(elements) + 1), meaning(3, texts.some_sequence(3, chance))[0])
+        other = [*elements]
+        at = chance.randrange(len(elements))
+        other[at] = other_than(3, elements[at], chance)
+        lower, upper, mixed = canonical(3, elements), in_half(elements, model.raised), in_half(elements, some)
+        assert all(model.compared(3, one, two).same for one, two in itertools.product((lower, upper, mixed), repeat=2))
+        yield from (Pair(3, *pair) for pair in [(lower, upper), (upper, lower), (mixed, upper), (lower, mixed)])
+        yield from (Pair(3, *pair) for pair in both_ways([(upper, canonical(3, other)), (mixed, in_half(other, some))]))
+    for octets in (bytes(octets) for octets in texts.refused_octets(3) if octets[0] == model.SEQUENCE_START):
+        yield from (Pair(3, *pair) for pair in both_ways([(b"A" + bytes(model.raised(octets)), b"A"), (b"A" + bytes(some(octets)), octets)]))
+
+
 def form_pairs() -> Iterator[Pair]:
     """No form, with texts that are the same, that differ, that end, and that are refused."""
     some = [b"", b"A", b"B", b"AB", b"`", b"\xC1 ", b"\x1B", b"\xC2", b"\xFF" * 40]
@@ -403,6 +433,7 @@ HEADING = "form,first,second,answer,part"
 def files() -> dict[str, list[Pair]]:
     """The pairs of each file, by its name, each once."""
     found: dict[str, Iterable[Pair]] = {f"{kind}_{form}.csv": of_kind(kind, form) for kind in KINDS for form in model.FORMS}
+    found["upper.csv"] = upper_pairs()
     found["form.csv"] = form_pairs()
     return {name: list(dict.fromkeys(pairs)) for name, pairs in found.items()}
 

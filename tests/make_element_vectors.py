@@ -191,6 +191,37 @@ def random_sequences(chance: random.Random) -> Iterator[Octets]:
         yield (model.SEQUENCE_START, *octets, chance.choice([0x40, 0x6D, 0x7E, 0x20, 0x30]))
 
 
+# Sequences in the upper half. Document 02, No. 6: "after 9B they count as 21 to 7E for every rule of 01".
+
+
+def some_raised(octets: Octets, chance: random.Random) -> Octets:
+    """A sequence with some of its octets in the upper half."""
+    return model.raised(octets, lambda place: chance.randrange(2) == 0)
+
+
+def points() -> Iterator[Octets]:
+    """Each point of a sequence: behind 9B, a digit, a 3B, seven of them, a full value, an intermediate, and two of these."""
+    for parameters in ("", "1", "12;", ";;;;;;;", ";;;;;;;9", "999", "1;999", ";;;;;;;999", " ", "/", "12;3 ", ";;;;;;; ", "1;999/"):
+        yield sequence(parameters, "")
+    yield from (sequence(parameters, "") for parameters in ("0" * 37, "0" * 38, "0" * 37 + "!", "0" * 35 + "999", "0" * 31 + ";" * 7))
+
+
+def upper_sequences() -> Iterator[Octets]:
+    """Every octet at each point of a sequence in the upper half; and the sequences below all there, but for the SPACE."""
+    for before in map(model.raised, points()):
+        yield from ((*before, octet) for octet in range(256))
+    yield from map(model.raised, [*value_sequences(), *counted_sequences(), *finals()])
+    yield from (octets for octets in map(model.raised, long_sequences()) if 0x7F not in octets)
+
+
+def mixed_sequences(chance: random.Random) -> Iterator[Octets]:
+    """The same with some octets there and some not; and the spellings of values, of which each is canonical or not."""
+    for before in points():
+        yield from ((*some_raised(before, chance), octet) for octet in range(256))
+    for octets in (*value_sequences(), *random_sequences(chance), *[*long_sequences(), *spelt_sequences()][::4]):
+        yield some_raised(octets, chance)
+
+
 def sequences(chance: random.Random) -> Iterator[Octets]:
     yield from value_sequences()
     yield from counted_sequences()
@@ -203,12 +234,13 @@ def sequences(chance: random.Random) -> Iterator[Octets]:
 def cut_off() -> Iterator[Octets]:
     """Every kind of element, cut off after each of its octets."""
     elements = ["C265", "C120", "194265", "195F", "1951", "CC41", "CCC265", "CCA1", "9B343B35206D", "9B6D", "9B20313B6D"]
+    elements += ["9BB4BBB5A1ED", "9BB43B3520ED", "9BED"]
     for octets in (octets_of(text) for text in elements):
         for size in range(len(octets) + 1):
             yield octets[:size]
-    longest = sequence("0" * 36 + "1", " m")
-    for size in range(len(longest) + 1):
-        yield longest[:size]
+    for longest in (sequence("0" * 36 + "1", " m"), model.raised(sequence("0" * 36 + "1", "!m"))):
+        for size in range(len(longest) + 1):
+            yield longest[:size]
 
 
 def random_octets(form: int, chance: random.Random) -> Iterator[Octets]:
@@ -438,6 +470,8 @@ def files() -> dict[str, list[str]]:
     found = {f"read_{form}.csv": unlike(reading_line(form, reading) for reading in readings(form)) for form in model.FORMS}
     found["sequences.csv"] = unlike(reading_line(3, reading) for reading in sequence_readings())
     found["spelt_sequences.csv"] = unlike(reading_line(3, Reading(octets)) for octets in spelt_sequences())
+    found["upper_sequences.csv"] = unlike(reading_line(3, Reading(octets)) for octets in upper_sequences())
+    found["mixed_sequences.csv"] = unlike(reading_line(3, Reading(octets)) for octets in mixed_sequences(random.Random(SEED)))
     found["characters.csv"] = unlike(wording_line(wording) for wording in code_points())
     found["words.csv"] = unlike(wording_line(wording) for wording in wordings())
     return found

@@ -60,6 +60,7 @@ def elements(form: int) -> list[bytes]:
         found += map(bytes.fromhex, ["23", "24", "A4", "8B", "CC41", "CCA3", "CCC265", "CCC820"])
         found += map(bytes.fromhex, ["9B6D", "9B346D", "9B204C", "9B303B6D", "9B3B3B3B3B3B3B3B6D", "9B3939393B3030372F7E"])
         found += [bytes(texts.octets_of(texts.LONG_SEQUENCES[0])), bytes(texts.octets_of(texts.LONG_SEQUENCES[2]))]
+        found += map(bytes.fromhex, ["9BB4ED", "9BA1CC", "9BB0BB6D", texts.LONG_UPPER[2]])
     return found
 
 
@@ -189,6 +190,20 @@ def form_vectors() -> Iterator[Vector]:
         yield Vector(form, (Call(b"", 0, False), Call(b"A", 1, True), Call(b"A" * 40, 0, False)))
 
 
+def upper_vectors() -> Iterator[Vector]:
+    """Sequences in the upper half, and with some of their octets there, cut at each octet and octet by octet; refused ones too."""
+    chance = random.Random(SEED)
+    sequences = [tuple(element) for element in elements(3) if element[0] == model.SEQUENCE_START]
+    sequences += [octets for octets in texts.refused_octets(3) if octets[0] == model.SEQUENCE_START]
+    for octets in sequences:
+        for page in (b"A" + bytes(other) + b"B" for other in (model.raised(octets), texts.some_half(octets, chance))):
+            yield from (Vector(3, told(pieces)) for pieces in in_two(page))
+            yield Vector(3, told_after(by(page, 1)))
+    for text in (bytes.fromhex(text) for form, text, _ in model.UPPER if form == 3):
+        yield from (Vector(3, told_after(pieces)) for pieces in in_two(text))
+    yield from (Vector(3, told_after([b"\x9B\xB4", bytes([octet])])[:2]) for octet in range(256))
+
+
 # Carries that are given outright.
 
 
@@ -206,6 +221,7 @@ def openings(form: int) -> list[bytes]:
     found = [b"\x19", b"\x19\x42"] if form == 2 else [b"\xC2"]
     if form == 3:
         found += map(bytes.fromhex, ["CC", "CCC2", "9B", "9B393939", "9B20", "9B" + "30" * 38, "9B3B", "9B" + "30" * 37 + "2F"])
+        found += map(bytes.fromhex, ["9BB9B9B9", "9B" + "B0" * 37 + "AF"])
     return found
 
 
@@ -354,6 +370,7 @@ def files() -> dict[str, list[Vector]]:
     found.update({f"octet_{form}.csv": octet_vectors(form) for form in model.FORMS})
     found.update({f"fault_{form}.csv": fault_vectors(form) for form in model.FORMS})
     found.update({f"room_{form}.csv": room_vectors(form) for form in model.FORMS})
+    found["upper.csv"] = upper_vectors()
     found["form.csv"] = form_vectors()
     found["carry.csv"] = carry_vectors()
     found["respelled.csv"] = respelled_vectors()

@@ -85,12 +85,18 @@ def some_value(chance: random.Random) -> str:
     return chance.choice(["", "", "", "0", "00"]) + value
 
 
+def some_half(octets: Octets, chance: random.Random) -> Octets:
+    """A sequence as it is, in the upper half, or in both."""
+    put = chance.choice([0, 0, 1, 2])
+    return model.raised(octets, lambda place: put == 1 or (put == 2 and chance.randrange(2) == 0))
+
+
 def some_sequence(form: int, chance: random.Random) -> Octets:
-    """A sequence of at most 40 octets."""
+    """A sequence of at most 40 octets, in either half."""
     values = ";".join(some_value(chance) for _ in range(chance.choice([1, 1, 1, 2, 3, 5, 8])))
     intermediate = [chance.choice(model.INTERMEDIATES)] if chance.randrange(3) == 0 else []
     octets = (model.SEQUENCE_START, *values.encode("ascii"), *intermediate, chance.choice(model.FINALS))
-    return octets if len(octets) <= model.MOST_OCTETS else some_sequence(form, chance)
+    return some_half(octets, chance) if len(octets) <= model.MOST_OCTETS else some_sequence(form, chance)
 
 
 ANY_FORM = [some_letter, some_primary, some_spacing, some_pair, some_pair, some_control]
@@ -128,13 +134,15 @@ REFUSED = {
     1: "A4 E5 80 9B CC 00 7F 8B 0E 0F 1B 1D 19 C262 C2C2 C10A C21B C2A4 C247 CB67 C769 C841A4",
     2: "00 7F 08 0E 1B 1D 1924 1940 190A 1919 191B 194262 194219 1942C2 19C2 C2 A1 80 FF 19 9B 194247 194B67",
     3: "60 5C 5E 7B 7D 7E A0 A9 D0 FF E5 80 00 0E 1B 1D 19 C262 C2CC CC0A CC9B346D CCCC41 CC60 CCC262 CC1B CCA9"
-    " C247 CB67 CCC247 CCCB67 9B1B 9B3A 9B2020 9B2031 9B31303030 9B3B3B3B3B3B3B3B3B 9B303939393B313030306D 9BC265",
+    " C247 CB67 CCC247 CCCB67 9B1B 9B3A 9B2020 9B2031 9B31303030 9B3B3B3B3B3B3B3B3B 9B303939393B313030306D 9BA0 9BFF"
+    " 9B9B346D 9BBA 9BB4A0 9BB4FF 9BA1B1 9BB130B0B0 9BBBBBBBBBBBBBBBBB",
 }
 LONG_SEQUENCES = ("9B" + "30" * 38 + "6D", "9B" + "30" * 38 + "30", "9B" + "30" * 37 + "206D", "9B" + "30" * 38 + "20")
+LONG_UPPER = ("9B" + "B0" * 38 + "ED", "9B" + "B0" * 38 + "B0", "9B" + "B0" * 37 + "A1ED", "9B" + "30" * 38 + "A1")
 
 
 def refused_octets(form: int) -> list[Octets]:
-    return [octets_of(text) for text in REFUSED[form].split() + (list(LONG_SEQUENCES) if form == 3 else [])]
+    return [octets_of(text) for text in REFUSED[form].split() + ([*LONG_SEQUENCES, *LONG_UPPER] if form == 3 else [])]
 
 
 # Damage.
@@ -217,6 +225,7 @@ DAMAGED_LONG = 2  # so many of the long texts are damaged too
 
 SPELLINGS = {form: [tuple(spelling) for spelling in model.every_spelling(form)] for form in model.FORMS}
 SEQUENCES = "9B6D 9B306D 9B346D 9B30346D 9B3B6D 9B303B6D 9B3B306D 9B303B306D 9B3B3030356D 9B31303B30206D 9B3030302F7E"
+SEQUENCES += " 9BED 9BB46D 9B34ED 9B34BBB56D 9B3B35A16D 9BB1B0BBB020ED 9BAFFE"
 RUN = 36  # letters, or half as many pairs
 
 

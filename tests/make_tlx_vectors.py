@@ -222,7 +222,7 @@ def on_page(form: int, page: int, text: Octets, chance: random.Random, count: in
 
 
 # What begins an element and does not end it.
-BEGUN = {1: "C2 CF", 2: "19 1942", 3: "C2 CC CCC2 9B 9B34 9B3B3B 9B20"}
+BEGUN = {1: "C2 CF", 2: "19 1942", 3: "C2 CC CCC2 9B 9B34 9B3B3B 9B20 9BB4"}
 
 
 def faulty_texts(form: int, chance: random.Random) -> Iterator[Octets]:
@@ -261,7 +261,7 @@ def faulty_late(form: int, chance: random.Random) -> Iterator[Octets]:
 LONG_ELEMENTS = {
     1: "C265 C120 CF7A",
     2: "1921 194265 197F 194120",
-    3: "C265 CC41 CCC265 CCC120 CCA1 9B6D 9B346D 9B3B6D 9B31323B3939393B2F7E",
+    3: "C265 CC41 CCC265 CCC120 CCA1 9B6D 9B346D 9B3B6D 9B31323B3939393B2F7E 9BB4ED",
 }
 
 
@@ -416,7 +416,8 @@ def page_numbers(case: Octets) -> list[int]:
 def pages_asked(form: int) -> Iterator[Page]:
     chance = random.Random(SEED)
     whole, others = case_lists(form)
-    faults = [*list(faulty(form, chance))[::2], *faulty_late(form, chance), *cut_apart(form, chance)]
+    every = 3 if form == 3 else 2  # a file has room for so many
+    faults = [*list(faulty(form, chance))[::every], *faulty_late(form, chance), *cut_apart(form, chance)]
     for case in [*whole, *all_at_once(form), *faults, *chance.sample(others, 100)]:
         yield from (Page(case, page) for page in page_numbers(case))
 

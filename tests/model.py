@@ -11,7 +11,7 @@ from __future__ import annotations
 import bisect
 import itertools
 import unicodedata
-from typing import Iterator, NamedTuple, Optional, Sequence, Tuple, Union
+from typing import Callable, Iterator, NamedTuple, Optional, Sequence, Tuple, Union
 
 FORMS = (1, 2, 3)
 SPACE = 0x20
@@ -341,6 +341,11 @@ SEPARATOR = 0x3B
 INTERMEDIATES = range(0x20, 0x30)
 FINALS = range(0x40, 0x7F)
 
+# Document 02, No. 6: "ISO 6429 .. allows A1 to FE inside a sequence, meaning the octet 80 (hex) below. So after 9B they count as 21 to 7E for
+# every rule of 01. A0 and FF stay refused as 6."
+LOWER_HALF = range(0x21, 0x7F)
+UPPER_HALF = range(0xA1, 0xFF)
+
 # "At most 8 values, each at most 999, and 40 octets in all, 9B counted."
 MOST_VALUES = 8
 MOST_VALUE = 999
@@ -419,6 +424,16 @@ def read_underlined(form: int, octets: Octets, first: Place) -> Step:
     return refused_at(3, first, place)
 
 
+def counted(octet: int) -> int:
+    """What an octet of a sequence, behind its 9B, counts as."""
+    return octet - 0x80 if octet in UPPER_HALF else octet
+
+
+def raised(octets: Octets, which: Callable[[int], bool] = lambda place: True) -> tuple[int, ...]:
+    """A sequence with those of its octets 21 to 7E, behind 9B, put into the upper half that stand at a place asked for."""
+    return tuple(o + 0x80 if place and o in LOWER_HALF and which(place) else o for place, o in enumerate(octets))
+
+
 class Parameters(NamedTuple):
     """What the octets of a sequence up to some place give: its values, the last of them still open, and its intermediate, or 0."""
 
@@ -463,7 +478,7 @@ def read_sequence(form: int, octets: Octets, first: Place) -> Step:
     """
     so_far = Parameters()
     for place in range(first + 1, len(octets)):
-        octet = octets[place]
+        octet = counted(octets[place])
         if not is_allowed(so_far, octet):
             return refused_at(6, first, place)
         if octet in FINALS:
@@ -1133,7 +1148,7 @@ def check_serial() -> None:
     """A page cut at each octet, and octet by octet: its words and its final answer are the whole page's, by the page and by its carry."""
     more = [(3, "41 CC C2 65 9B 30 3B 6D 42", None), (2, "41 19 42 65 19 24 42", None)]
     more += [(form, text, None) for form, text, _ in RESPELLED]
-    for form, text, _ in [*READINGS, *more]:
+    for form, text, _ in [*READINGS, *more, *UPPER]:
         octets = bytes.fromhex(text)
         whole = read_text(form, octets)[0]
         words = words_of(read_pieces(form, octets)[0])
@@ -1217,7 +1232,60 @@ RESPELLED: list[tuple[int, str, int]] = [
     (3, "9B 6D 9B 3B 6D 9B 34 6D 9B 31 30 3B 3B 31 30 30 20 4C", 0),
     (3, "9B 30 6D 9B 30 3B 6D 9B 3B 30 6D 9B 30 34 6D 9B 34 3B 30 30 35 2F 7E", 5),
     (3, "9B 30 30 30 3B 30 30 31 3B 30 6D 41 24 A6 CC 23 8B 9B 30 6D", 4),
+    # No. 6: "Canonical spelling uses the lower half."
+    (3, "9B ED 9B B4 6D 9B 34 ED 9B B4 ED 9B 34 6D 9B 20 CC", 5),
+    (3, "9B 34 BB 35 6D 9B 34 3B 35 A1 6D 9B B0 ED B4 ED 9B 3B 35 21 6D", 3),
 ]
+
+
+# What request No. 6 says, by hand: form, text, and the words that it means or its refusal.
+UPPER: list[tuple[int, str, Union[list[int], Answer]]] = [
+    (3, "9B B4 ED", [67136769, 4]),
+    (3, "9B 34 ED", [67136769, 4]),
+    (3, "9B B4 6D", [67136769, 4]),
+    (3, "9B B0 BB ED", [67136770, 0, 0]),
+    (3, "9B B1 32 B3 BB B4 ED", [67136770, 123, 4]),
+    (3, "9B 20 CC", [69225473, 0]),
+    (3, "9B A1 CC", [69291009, 0]),
+    (3, "9B AF FE", [70221313, 0]),
+    (3, "9B C0", [67125249, 0]),
+    (3, "9B C2 65", [67125761, 0, 0x65]),
+    # "A0 and FF stay refused as 6", and so does all that is no octet of a sequence 80 below.
+    *((3, f"9B {octet:02X}", Answer(6, 0, 0, 1)) for octet in (*range(0x80, 0xA1), 0xBA, *range(0xBC, 0xC0), 0xFF)),
+    (3, "9B B4 A0 ED", Answer(6, 0, 0, 2)),
+    (3, "9B B4 FF", Answer(6, 0, 0, 2)),
+    (3, "9B 20 A1 6D", Answer(6, 0, 0, 2)),
+    (3, "9B A1 B4 6D", Answer(6, 0, 0, 2)),
+    (3, "9B A1 BB 6D", Answer(6, 0, 0, 2)),
+    (3, "9B B1 30 B0 B0 6D", Answer(7, 0, 0, 4)),
+    (3, "9B" + " BB 3B" * 4 + " ED", Answer(7, 0, 0, 8)),
+    (3, "9B" + " B0" * 39 + " ED", Answer(8, 0, 0, 39)),
+    (3, "9B" + " B0" * 38 + " ED", [67136769, 0]),
+    (3, "41 9B B9 BB", Answer(4, 1, 1, 4)),
+    # 1B is not 9B, forms 1 and 2 have no sequences, and outside one the octets mean what they meant.
+    (3, "1B B4 ED", Answer(2, 0, 0, 0)),
+    (1, "9B B4 ED", Answer(1, 0, 0, 0)),
+    (2, "9B B4 ED", Answer(5, 0, 0, 0)),
+    (3, "B4 BB 9B B4 ED B4 BB", [0xD7, 0xBB, 67136769, 4, 0xD7, 0xBB]),
+]
+
+
+def check_upper() -> None:
+    """The readings above; and each way of putting octets of a sequence into the upper half gives the same words or the same refusal, the
+    same octets converted, and texts that mean the same."""
+    for form, text, expected in UPPER:
+        answer, words = read_text(form, bytes.fromhex(text))
+        assert (Answer(*answer[:4]) if answer.number else words) == expected, (form, text, answer, words)
+    lower = ["6D", "30 6D", "30 3B 6D", "31 32 3B 33 20 4C", "3B 39 2F 7E", "39 39 39 39", "20 20 6D", "21 31", "34 3B", "3A", "7F 6D"]
+    for sequence in (bytes.fromhex("9B " + text) for text in lower):
+        plain, words = read_text(3, sequence)
+        for ways in range(2 ** len(sequence)):
+            other = bytes(raised(sequence, lambda place: ways >> place & 1 == 1))
+            answer, same = read_text(3, other)
+            assert (answer[:4], same) == (plain[:4], words), (sequence, other)
+            assert answer.respelled == (plain.number == 0 and (plain.respelled or other != sequence)), (sequence, other)
+            assert convert_text(3, 3, other)[1] == convert_text(3, 3, sequence)[1], (sequence, other)
+            assert compared(3, other, sequence).same == (plain.number == 0), (sequence, other)
 
 
 def every_spelling(form: int) -> list[bytes]:
@@ -1270,6 +1338,9 @@ COMPARISONS: list[tuple[int, str, str, tuple[int, ...], str]] = [
     (1, "60 C2 65 41", "C1 20 65 42", (0, 1, 0, 0, 0, 0, 1, 2, 0, 1, 1), "C2 65 41"),
     (3, "41 CC 20 42", "41 20 42", (0, 1, 0, 0, 0, 0, 1, 1, 0, 1, 1), "CC 20 42"),
     (3, "9B 34 6D", "9B 34 3B 6D", (0, 0, 0, 0, 0, 0, 0, 0, 0, 1, 0), "9B 34 6D"),
+    # No. 6: in the other half the same, spelled otherwise; outside a sequence another
+    (3, "9B 34 6D 41", "9B B4 ED 41", (0, 2, 0, 0, 0, 1, 4, 4, 1, 1, 4), ""),
+    (3, "9B B4 ED 34", "9B 34 6D B4", (0, 1, 0, 0, 0, 0, 3, 3, 0, 1, 3), "34"),
     # one that ends first
     (2, "41 19 42 65", "41", (0, 1, 0, 0, 0, 0, 1, 1, 0, 1, 1), "19 42 65"),
     (2, "60", "19 41 20 19 42 65", (0, 1, 0, 0, 0, 0, 1, 3, 0, 2, 3), "19 42 65"),
@@ -1329,4 +1400,6 @@ if __name__ == "__main__":
     check_serial()
     check_compared()
     check_respelled()
-    print("the sixteen readings hold, and so do texts, the whole example of a case, pages in pieces, texts compared and what was respelled")
+    check_upper()
+    print("the sixteen readings hold, and so do texts, the whole example of a case, pages in pieces, texts compared, what was respelled and")
+    print("sequences in the upper half")

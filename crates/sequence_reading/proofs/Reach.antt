@@ -7,7 +7,7 @@ use native.Mathlib.Omega.{arith}
 use mathlib.Core.Bool.{Bool, true, false}
 use lib.Dec.{leb, ltb, eqb}
 use lib.ListN.{length, length-append}
-use borrow.Author.Tests.{leb-true, leb-false, le-leb, lt-leb, ltb-true, ltb-false, lt-ltb, le-ltb, eqb-true, eqb-false}
+use borrow.Author.Tests.{leb-true, leb-false, ltb-true, ltb-false, eqb-true, eqb-false}
 use Rattle.run.specs.Choice.{pick}
 use Rattle.run.specs.Head.{Head, element, refused, none}
 use Rattle.run.specs.Grammar.{Begins}
@@ -25,8 +25,8 @@ use Rattle.sequence_reading.specs.Grammar.{second-middle, Passes, passes
 use Rattle.sequence_reading.specs.Grammar.{RefusesSequence, ends, not-allowed, passes, fortieth}
 use Rattle.sequence_reading.specs.SequenceHead.{Fair, numberAt, unless, digitStep, valueStep, middleStep, kindStep, stepOf}
 use Rattle.sequence_reading.specs.SequenceHead.{after, scan, begun, sequenceHead}
-use Rattle.sequence_reading.proofs.Steps.{middle-says, number-6, number-7, number-8, number-0, digit-refused, digit-taken, step-as}
-use Rattle.sequence_reading.proofs.Steps.{value-refused, value-taken, middle-refused, middle-taken}
+use Rattle.sequence_reading.proofs.Steps.{middle-says, digit-6, digit-7, digit-8, digit-taken, value-6, value-7, value-8, value-taken}
+use Rattle.sequence_reading.proofs.Steps.{middle-6, middle-8, middle-taken, step-as}
 
 -- ---- lists of values
 
@@ -87,7 +87,7 @@ through-decimal (digit {s} {v} {d} b dec e) ws rest k t h g =
     let here = state v k 0 (t + length s) in
     ap (scan ws (state 0 k 0 t)) (append-assoc s (b ∷ []) rest)
     ∙ through-decimal dec ws (b ∷ rest) k t (omega arith) (omega arith)
-    ∙ scan-as ws here b rest (Digit d) _ e (sym (digit-taken here 0 d (v * 10 + d) refl (number-0 here _ refl (le-ltb 999 (v * 10 + d) h) (omega arith)) refl))
+    ∙ scan-as ws here b rest (Digit d) _ e (sym (digit-taken here d (v * 10 + d) refl refl h (omega arith)))
     ∙ ap (λ (n : ℕ). scan ws (state (v * 10 + d) k 0 n) rest) (omega arith)
 
 through-parameters : {p vs : List ℕ} → Parameters p vs → (cs : List ℕ) (c : ℕ) → vs ≡ cs ++ (c ∷ []) → (ws rest : List ℕ) (k t : ℕ)
@@ -107,7 +107,7 @@ through-parameters (joined {s} {p} {vs} {v} b dec e ps) (x ∷ cs) c w ws rest k
     let here = state v k 0 (t + length s) in
     ap (scan ws (state 0 k 0 t)) (append-assoc s (b ∷ p) rest)
     ∙ through-decimal dec ws (b ∷ (p ++ rest)) k t (h .0) (omega arith)
-    ∙ scan-as ws here b (p ++ rest) Separator _ e (sym (value-taken here 0 (number-0 here _ refl (lt-leb 7 k (omega arith)) (omega arith)) refl))
+    ∙ scan-as ws here b (p ++ rest) Separator _ e (sym (value-taken here refl (omega arith) (omega arith)))
     ∙ through-parameters ps cs c wr (ws ++ (v ∷ [])) rest (k + 1) (t + length s + 1) (h .1) (omega arith) (omega arith)
     ∙ simp (append-assoc, vx) (ap₂ (λ (i j : ℕ). scan (ws ++ (x ∷ cs)) (state c i 0 j) rest) (omega arith) (omega arith))
 
@@ -116,7 +116,7 @@ through-middle : {i : List ℕ} {m : ℕ} → Intermediate i m → (ws rest : Li
 through-middle grammar.none ws rest c k t h = ap (λ (n : ℕ). scan ws (state c k 0 n) rest) (omega arith)
 through-middle (one {b} {i} e) ws rest c k t h =
     let here = state c k 0 t in
-    scan-as ws here b rest (Middle i) _ e (sym (middle-taken here 0 i (number-0 here false refl refl (omega arith)) refl))
+    scan-as ws here b rest (Middle i) _ e (sym (middle-taken here i refl (omega arith)))
 
 -- the state in which what is inside a sequence leaves the reader
 abbrev pub stateOf : List ℕ → ℕ → List ℕ → Scan
@@ -142,23 +142,20 @@ arrive {s} {vs} {m} h t =
 
 step-not-allowed : {m : ℕ} {k : Kind} → NotAllowed m k → (s : Scan) → s .middle ≡ m → kindStep k s ≡ Bad 6
 step-not-allowed no-kind s e = refl
-step-not-allowed (late-digit {m} {d} h) s e = sym (digit-refused s 6 d (s .current * 10 + d) refl (number-6 s (ltb 999 (s .current * 10 + d)) (omega arith)) (λ z. omega arith))
-step-not-allowed (late-separator h) s e = sym (value-refused s 6 (number-6 s (leb 7 (s .closed)) (omega arith)) (λ z. omega arith))
-step-not-allowed (second-middle {m} {i} h) s e = sym (middle-refused s 6 i (number-6 s false (omega arith)) (λ z. omega arith))
+step-not-allowed (late-digit {m} {d} h) s e = sym (digit-6 s d (omega arith))
+step-not-allowed (late-separator h) s e = sym (value-6 s (omega arith))
+step-not-allowed (second-middle {m} {i} h) s e = sym (middle-6 s i (omega arith))
 
 step-passes : {vs : List ℕ} {k : Kind} → Passes vs k → (s : Scan) → s .middle ≡ 0 → s .current ≡ lastOf vs → s .closed + 1 ≡ length vs
     → kindStep k s ≡ Bad 7
-step-passes (passes-999 {vs} {d} h) s m c n =
-    sym (digit-refused s 7 d _ refl (number-7 s _ m (lt-ltb 999 (s .current * 10 + d) (omega arith))) (λ z. omega arith))
-step-passes (ninth h) s m c n = sym (value-refused s 7 (number-7 s _ m (le-leb 7 (s .closed) (omega arith))) (λ z. omega arith))
+step-passes (passes-999 {vs} {d} h) s m c n = sym (digit-7 s d m (omega arith))
+step-passes (ninth h) s m c n = sym (value-7 s m (omega arith))
 
 step-fortieth : {m : ℕ} {vs : List ℕ} {k : Kind} → Goes m vs k → (s : Scan) → s .middle ≡ m → s .current ≡ lastOf vs
     → s .closed + 1 ≡ length vs → s .taken ≡ 39 → kindStep k s ≡ Bad 8
-step-fortieth (digit-goes {vs} {d} h) s m c n t =
-    sym (digit-refused s 8 d _ refl (number-8 s _ m (le-ltb 999 (s .current * 10 + d) (omega arith)) (omega arith)) (λ z. omega arith))
-step-fortieth (separator-goes h) s m c n t =
-    sym (value-refused s 8 (number-8 s _ m (lt-leb 7 (s .closed) (omega arith)) (omega arith)) (λ z. omega arith))
-step-fortieth (middle-goes {vs} {i}) s m c n t = sym (middle-refused s 8 i (number-8 s _ m refl (omega arith)) (λ z. omega arith))
+step-fortieth (digit-goes {vs} {d} h) s m c n t = sym (digit-8 s d m (omega arith) (omega arith))
+step-fortieth (separator-goes h) s m c n t = sym (value-8 s m (omega arith) (omega arith))
+step-fortieth (middle-goes {vs} {i}) s m c n t = sym (middle-8 s i m (omega arith))
 
 module _ {s vs : List ℕ} {m : ℕ} (h : Inside s m vs) where
   closed-count : length (closedOf vs) + 1 ≡ length vs

@@ -1,11 +1,11 @@
 -- What an octet's kind says of it, and what each kind does to a state.
 -- Assumes nothing.
 use Prim.Native.Nat.{ℕ, _+_, _*_, _-_, _≤_, _<_}
-use mathlib.Core.Path.{_≡_, refl, sym}
+use mathlib.Core.Path.{_≡_, refl}
 use mathlib.Core.Bool.{Bool, true, false}
 use native.Mathlib.Omega.{arith}
 use lib.Dec.{leb, ltb, eqb}
-use borrow.Author.Tests.{le-leb, lt-leb, eq-eqb, ne-eqb}
+use borrow.Author.Tests.{le-leb, lt-leb, lt-ltb, le-ltb, eq-eqb, ne-eqb}
 use Rattle.run.specs.Choice.{pick, within}
 use Rattle.run.proofs.Choices.{pick-case, within-range}
 use Rattle.run.proofs.Range as range
@@ -15,7 +15,7 @@ use Rattle.sequence_reading.specs.declared.Scan.{Scan}
 use Rattle.sequence_reading.specs.declared.Next.{Next}
 use Rattle.sequence_reading.specs.declared.Next.the-variants.{More, Value, Bad}
 use Rattle.sequence_reading.specs.Kinds.{countsAs, kindCounted, kindOf}
-use Rattle.sequence_reading.specs.SequenceHead.{numberAt, unless, digitStep, valueStep, middleStep, kindStep, stepOf}
+use Rattle.sequence_reading.specs.SequenceHead.{numberAt, digitStep, valueStep, middleStep, kindStep, stepOf}
 
 -- ---- a kind
 
@@ -58,55 +58,72 @@ middle-says b i e = rw e at (carries b)
 pub final-says : (b f : ℕ) → kindOf b ≡ Final f → (0x40 ≤ f) × (f ≤ 0x7E)
 final-says b f e = rw e at (carries b)
 
--- ---- the number at an octet, and what each number makes of a step
+-- ---- each outcome of a step, under conditions that `omega` can show
 
 module _ (s : Scan) where
-  pub number-6 : (past : Bool) → (s .middle ≡ 0 → ⊥) → 6 ≡ numberAt s past
-  number-6 past m = sym (simp (ne-eqb (s .middle) 0 m))
+  number-6 : (past : Bool) → (s .middle ≡ 0 → ⊥) → numberAt s past ≡ 6
+  number-6 past m = simp (ne-eqb (s .middle) 0 m)
 
-  pub number-7 : (past : Bool) → s .middle ≡ 0 → past ≡ true → 7 ≡ numberAt s past
-  number-7 past m p = sym (simp (eq-eqb (s .middle) 0 m, p))
+  number-7 : (past : Bool) → s .middle ≡ 0 → past ≡ true → numberAt s past ≡ 7
+  number-7 past m p = simp (eq-eqb (s .middle) 0 m, p)
 
-  pub number-8 : (past : Bool) → s .middle ≡ 0 → past ≡ false → 39 ≤ s .taken → 8 ≡ numberAt s past
-  number-8 past m p t = sym (simp (eq-eqb (s .middle) 0 m, p, le-leb 39 (s .taken) t))
+  number-8 : (past : Bool) → s .middle ≡ 0 → past ≡ false → 39 ≤ s .taken → numberAt s past ≡ 8
+  number-8 past m p t = simp (eq-eqb (s .middle) 0 m, p, le-leb 39 (s .taken) t)
 
-  pub number-0 : (past : Bool) → s .middle ≡ 0 → past ≡ false → s .taken < 39 → 0 ≡ numberAt s past
-  number-0 past m p t = sym (simp (eq-eqb (s .middle) 0 m, p, lt-leb 39 (s .taken) t))
+  number-0 : (past : Bool) → s .middle ≡ 0 → past ≡ false → s .taken < 39 → numberAt s past ≡ 0
+  number-0 past m p t = simp (eq-eqb (s .middle) 0 m, p, lt-leb 39 (s .taken) t)
 
-pub refused-so : (n m : ℕ) (x : Next) → n ≡ m → (n ≡ 0 → ⊥) → Bad n ≡ unless m x
-refused-so n m x e h = rw (← e) (sym (simp (ne-eqb n 0 h)))
-
-pub taken-so : (n m : ℕ) (x : Next) → n ≡ m → n ≡ 0 → x ≡ unless m x
-taken-so n m x e h = rw (← e, h)
-
--- a digit, a 3B and an intermediate, by the number that stands there
-module _ (s : Scan) (n : ℕ) where
-  module _ (d v : ℕ) (w : v ≡ s .current * 10 + d) (e : n ≡ numberAt s (ltb 999 v)) where
-    pub digit-refused : (n ≡ 0 → ⊥) → Bad n ≡ digitStep s d
+  -- a digit
+  module _ (d : ℕ) where
+    pub digit-6 : (s .middle ≡ 0 → ⊥) → Bad 6 ≡ digitStep s d
     unfolding digitStep
-    digit-refused h = rw (← w) (refused-so n _ _ e h)
+    digit-6 m = rw (number-6 (ltb 999 (s .current * 10 + d)) m)
 
-    pub digit-taken : n ≡ 0 → More (record { current = v; closed = s .closed; middle = 0; taken = s .taken + 1 }) ≡ digitStep s d
+    pub digit-7 : s .middle ≡ 0 → 999 < s .current * 10 + d → Bad 7 ≡ digitStep s d
     unfolding digitStep
-    digit-taken h = rw (← w) (taken-so n _ _ e h)
+    digit-7 m h = rw (number-7 _ m (lt-ltb 999 (s .current * 10 + d) h))
 
-  module _ (e : n ≡ numberAt s (leb 7 (s .closed))) where
-    pub value-refused : (n ≡ 0 → ⊥) → Bad n ≡ valueStep s
-    unfolding valueStep
-    value-refused h = refused-so n _ _ e h
+    pub digit-8 : s .middle ≡ 0 → s .current * 10 + d ≤ 999 → 39 ≤ s .taken → Bad 8 ≡ digitStep s d
+    unfolding digitStep
+    digit-8 m h t = rw (number-8 _ m (le-ltb 999 (s .current * 10 + d) h) t)
 
-    pub value-taken : n ≡ 0 → Value (record { current = 0; closed = s .closed + 1; middle = 0; taken = s .taken + 1 }) ≡ valueStep s
-    unfolding valueStep
-    value-taken h = taken-so n _ _ e h
+    pub digit-taken : (v : ℕ) → v ≡ s .current * 10 + d → s .middle ≡ 0 → v ≤ 999 → s .taken < 39
+        → More (record { current = v; closed = s .closed; middle = 0; taken = s .taken + 1 }) ≡ digitStep s d
+    unfolding digitStep
+    digit-taken v e m h t = rw (e, number-0 _ m (le-ltb 999 (s .current * 10 + d) (omega arith)) t)
 
-  module _ (i : ℕ) (e : n ≡ numberAt s false) where
-    pub middle-refused : (n ≡ 0 → ⊥) → Bad n ≡ middleStep s i
+  -- a 3B
+  pub value-6 : (s .middle ≡ 0 → ⊥) → Bad 6 ≡ valueStep s
+  unfolding valueStep
+  value-6 m = rw (number-6 (leb 7 (s .closed)) m)
+
+  pub value-7 : s .middle ≡ 0 → 7 ≤ s .closed → Bad 7 ≡ valueStep s
+  unfolding valueStep
+  value-7 m h = rw (number-7 _ m (le-leb 7 (s .closed) h))
+
+  pub value-8 : s .middle ≡ 0 → s .closed < 7 → 39 ≤ s .taken → Bad 8 ≡ valueStep s
+  unfolding valueStep
+  value-8 m h t = rw (number-8 _ m (lt-leb 7 (s .closed) h) t)
+
+  pub value-taken : s .middle ≡ 0 → s .closed < 7 → s .taken < 39
+      → Value (record { current = 0; closed = s .closed + 1; middle = 0; taken = s .taken + 1 }) ≡ valueStep s
+  unfolding valueStep
+  value-taken m h t = rw (number-0 _ m (lt-leb 7 (s .closed) h) t)
+
+  -- an intermediate
+  module _ (i : ℕ) where
+    pub middle-6 : (s .middle ≡ 0 → ⊥) → Bad 6 ≡ middleStep s i
     unfolding middleStep
-    middle-refused h = refused-so n _ _ e h
+    middle-6 m = rw (number-6 false m)
 
-    pub middle-taken : n ≡ 0 → More (record { current = s .current; closed = s .closed; middle = i; taken = s .taken + 1 }) ≡ middleStep s i
+    pub middle-8 : s .middle ≡ 0 → 39 ≤ s .taken → Bad 8 ≡ middleStep s i
     unfolding middleStep
-    middle-taken h = taken-so n _ _ e h
+    middle-8 m t = rw (number-8 false m refl t)
+
+    pub middle-taken : s .middle ≡ 0 → s .taken < 39
+        → More (record { current = s .current; closed = s .closed; middle = i; taken = s .taken + 1 }) ≡ middleStep s i
+    unfolding middleStep
+    middle-taken m t = rw (number-0 false m refl t)
 
 -- a step goes by the octet's kind
 pub step-as : (s : Scan) (b : ℕ) (k : Kind) → kindOf b ≡ k → stepOf s b ≡ kindStep k s

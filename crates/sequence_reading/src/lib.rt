@@ -2,7 +2,7 @@
 ghost use mathlib.Core.Path.{_≡_};
 ghost use Prim.Native.Nat.{_<_};
 ghost use lib.ListN.{set};
-ghost use Rattle.sequence_reading.specs.SequenceHead.{Fair, numberAt, digitStep, valueStep, middleStep, stepOf};
+ghost use Rattle.sequence_reading.specs.SequenceHead.{Fair, digitStep, valueStep, middleStep, stepOf};
 ghost use Rattle.sequence_reading.specs.EightValues.{listOf};
 ghost use Rattle.sequence_reading.specs.Promises.{KindOfPromise, ValueAtPromise, ReadSequencePromise};
 
@@ -69,7 +69,8 @@ pub fn kind_of(b: u8) -> Kind
     match b {
         0x30..=0x39 => Kind::Digit(b - 0x30),
         0xB0..=0xB9 => Kind::Digit(b - 0xB0),
-        0x3B | 0xBB => Kind::Separator,
+        0x3B => Kind::Separator,
+        0xBB => Kind::Separator,
         0x20..=0x2F => Kind::Middle(b),
         0xA1..=0xAF => Kind::Middle(b - 0x80),
         0x40..=0x7E => Kind::Final(b),
@@ -78,32 +79,24 @@ pub fn kind_of(b: u8) -> Kind
     }
 }
 
-// 01: "at one octet 5 goes first, then 6, 7, 8", of an octet that is a parameter or an intermediate: 6 after an intermediate, where only a
-// final is allowed; 7 where it passes a limit of the values; 8, "the 40th octet of a sequence isn't its final"; else 0.
-fn number_at(s: Scan, passes: bool) -> usize
-    ensures { λ r. ⌜ r ≡ numberAt s passes ⌝ }
-{
-    if s.middle != 0 {
-        return 6;
-    }
-    if passes {
-        return 7;
-    }
-    if 39 <= s.taken {
-        return 8;
-    }
-    0
-}
+// 01: "40 octets in all, 9B counted", so as many before the final.
+const BEFORE_FINAL: usize = 39;
 
-// 01: "the digit that passes 999".
+// 01: "at one octet 5 goes first, then 6, 7, 8": 6 after an intermediate, where only a final is allowed; 7, "the digit that passes 999"; 8,
+// "the 40th octet of a sequence isn't its final".
 fn digit_step(s: Scan, d: u8) -> Next
     requires { ⌜ Fair s ⌝ }
     ensures { λ r. ⌜ r ≡ digitStep s d ⌝ }
 {
+    if s.middle != 0 {
+        return Next::Bad(6);
+    }
     let v = s.current * 10 + d as u32;
-    let number = number_at(s, 999 < v);
-    if number != 0 {
-        return Next::Bad(number);
+    if 999 < v {
+        return Next::Bad(7);
+    }
+    if BEFORE_FINAL <= s.taken {
+        return Next::Bad(8);
     }
     Next::More(Scan {
         current: v,
@@ -113,14 +106,19 @@ fn digit_step(s: Scan, d: u8) -> Next
     })
 }
 
-// 01: "the 3B that opens a ninth value".
+// 01: "the 3B that opens a ninth value", in the same order.
 fn value_step(s: Scan) -> Next
     requires { ⌜ Fair s ⌝ }
     ensures { λ r. ⌜ r ≡ valueStep s ⌝ }
 {
-    let number = number_at(s, 7 <= s.closed);
-    if number != 0 {
-        return Next::Bad(number);
+    if s.middle != 0 {
+        return Next::Bad(6);
+    }
+    if 7 <= s.closed {
+        return Next::Bad(7);
+    }
+    if BEFORE_FINAL <= s.taken {
+        return Next::Bad(8);
     }
     Next::Value(Scan {
         current: 0,
@@ -135,9 +133,11 @@ fn middle_step(s: Scan, i: u8) -> Next
     requires { ⌜ Fair s ⌝ }
     ensures { λ r. ⌜ r ≡ middleStep s i ⌝ }
 {
-    let number = number_at(s, false);
-    if number != 0 {
-        return Next::Bad(number);
+    if s.middle != 0 {
+        return Next::Bad(6);
+    }
+    if BEFORE_FINAL <= s.taken {
+        return Next::Bad(8); // an intermediate passes no limit of the values
     }
     Next::More(Scan {
         current: s.current,

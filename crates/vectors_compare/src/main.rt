@@ -78,5 +78,6 @@ fn main() {
     run_file(b"joined_1.csv");
     run_file(b"joined_2.csv");
     run_file(b"joined_3.csv");
+    run_file(b"upper.csv");
     run_file(b"form.csv");
 }

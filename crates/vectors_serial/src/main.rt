@@ -62,6 +62,7 @@ fn main() {
     run_file(b"room_1.csv", Start::Form);
     run_file(b"room_2.csv", Start::Form);
     run_file(b"room_3.csv", Start::Form);
+    run_file(b"upper.csv", Start::Form);
     run_file(b"form.csv", Start::Form);
     run_file(b"carry.csv", Start::Carry);
     run_file(b"respelled.csv", Start::Carry);
