@@ -4,7 +4,7 @@
 
 `compare` asks every question with the buffers laid in three ways, and says how many answers are the model's: all numbers, and every
 octet of each lent buffer after the call, the ones that are only read too. Questions are all texts of up to two octets, and of three that
-begin with SS2 or CC, read and converted, and their elements by themselves; sequences in every kind of spelling; the vectors of
+begin with SS2, CC or 9B, read and converted, and their elements by themselves; sequences in every kind of spelling; the vectors of
 make_text_vectors.py, make_serial_vectors.py, make_tlx_vectors.py and make_compare_vectors.py; random texts, words and cases, whole and
 damaged; accepted texts joined; random pages up to the limit in random pieces, each beside its reading as a whole; carries that nobody
 made; two texts compared, all of one octet, and random ones beside their respellings, changed and damaged; and the longest texts.
@@ -143,9 +143,9 @@ def short() -> Iterator[Asked]:
 
 
 def three_octets() -> Iterator[Asked]:
-    """All texts of SS2 and two octets in form 2, and of CC and two octets in form 3: read, their first element by itself, and converted
-    within the form."""
-    for form, first in ((2, model.SS2), (3, model.UNDERLINE)):
+    """All texts of SS2 and two octets in form 2, and of CC or 9B and two octets in form 3: read, their first element by itself, and
+    converted within the form."""
+    for form, first in ((2, model.SS2), (3, model.UNDERLINE), (3, model.SEQUENCE_START)):
         for octets in itertools.product(range(256), repeat=2):
             text = bytes((first, *octets))
             yield reading(form, text, len(text))
@@ -154,9 +154,10 @@ def three_octets() -> Iterator[Asked]:
 
 
 def sequences() -> Iterator[Asked]:
-    """Sequences in every kind of spelling, alone and between others, read, converted, and one by one."""
+    """Sequences in every kind of spelling and in either half, alone and between others, read, converted, and one by one."""
     chance = random.Random(SEED)
-    for octets in (*elements.spelt_sequences(), *elements.sequences(chance)):
+    halves = (*elements.upper_sequences(), *elements.mixed_sequences(chance))
+    for octets in (*elements.spelt_sequences(), *elements.sequences(chance), *halves):
         for text in (bytes(octets), b"a" * chance.randrange(20) + bytes(octets) + b"#"):
             yield reading(3, text, room_near(model.read_text(3, text), chance))
             yield converting(3, 3, text, room_near(model.convert_text(3, 3, text), chance))
@@ -593,6 +594,7 @@ def main(folder: pathlib.Path, emulator: Sequence[str]) -> int:
     results += [examples.check_compare([*emulator, str(folder / "compare-c")], folder)]
     results += [examples.check_readme("What changed between two transfers")]
     results += [examples.check_respelled([*emulator, str(folder / "respelled-c")], folder), examples.check_readme("What was respelled")]
+    results += [examples.check_readme("Read control sequences with the top bit set")]
     if (folder / "convert-rust").exists():
         results += [examples.check("Rust", [*emulator, str(folder / "convert-rust")], folder)]
         results += [examples.check_own([*emulator, str(folder / "document-rust")]), examples.check_readme("Use it from Rust")]

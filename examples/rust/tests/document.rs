@@ -321,6 +321,27 @@ fn a_reading_says_how_many_elements_were_not_canonical() {
 }
 
 #[test]
+fn sequences_with_the_top_bit_set() {
+    // Behind 9B, A1 to FE count as 21 to 7E; outside a sequence B4 and ED are themselves.
+    let lower = b"\x9B4;12!m\xB4\xED\x9B L";
+    let upper = b"\x9B\xB4\xBB\xB1\xB2\xA1\xED\xB4\xED\x9B \xCC";
+    let mixed = b"\x9B4\xBB1\xB2!\xED\xB4\xED\x9B L";
+    let words = [69_299_458, 4, 12, 0xD7, 0x166, 69_225_473, 0];
+    for (text, respelled) in [(&lower[..], 0), (&upper[..], 2), (&mixed[..], 1)] {
+        assert_eq!(read(Form::Basic, text), reading(&words, respelled));
+        let respelt = convert(Form::Basic, Form::Basic, text);
+        assert_eq!(respelt, conversion(lower, respelled));
+    }
+    // A0 and FF are in neither half, and 1B is not 9B.
+    let refused = |refusal, count| Err(error(refusal, 0, 0, count, 0));
+    for text in [b"\x9B\xA0m", b"\x9B\xFFm", b"\x9B\x9Bm"] {
+        assert_eq!(read(Form::Basic, text), refused(Refusal::NotAllowed, 1));
+    }
+    let escape = read(Form::Basic, b"\x1B\xB4\xED");
+    assert_eq!(escape, refused(Refusal::Escape, 0));
+}
+
+#[test]
 fn the_number_adds_up() {
     let (one, other) = (b"#\xC2e\x9B0m", b"$A\xA6#");
     let joined = [&one[..], &other[..]].concat();
