@@ -3,7 +3,8 @@
    JOB: read-F, write-F, convert-F-G; list-F-N, which writes the first N words alone; feed-F-N, a page in pieces of N octets; element-F, the
    text gone through element by element; compare-F, the text beside the same octets; respelt-F, the text beside its canonical spelling;
    iconv-F:FROM:TO, on the octets of form F; iconv-words-F:NAME, which writes as NAME what iconv read of these octets from NAME.
-   TEXT: ascii, nine-to-one, pairs, supplementary, sequences; not-canonical, nine letters to one element that the form spells otherwise. */
+   TEXT: ascii, nine-to-one, pairs, supplementary, sequences, upper-sequences; not-canonical, nine letters to one element that the form
+   spells otherwise. */
 #include <iconv.h>
 #include <stdint.h>
 #include <stdio.h>
@@ -71,6 +72,16 @@ static size_t sequence(uint8_t *e)
     return strlen(s);
 }
 
+/* The same in the upper half: behind 9B, each octet but the SPACE with its top bit set. */
+static size_t upper_sequence(uint8_t *e)
+{
+    size_t n = sequence(e);
+    for (size_t i = 1; i < n; i++)
+        if (e[i] != ' ')
+            e[i] |= 0x80;
+    return n;
+}
+
 /* In forms 1 and 2 an accent that has an octet of its own, and in form 3 the number sign or the currency sign. */
 static size_t not_canonical(int form, uint8_t *e)
 {
@@ -92,6 +103,8 @@ static size_t element(const char *name, int form, size_t i, uint8_t *e)
         return supplementary(e);
     if (strcmp(name, "sequences") == 0)
         return sequence(e);
+    if (strcmp(name, "upper-sequences") == 0)
+        return upper_sequence(e);
     if (strcmp(name, "not-canonical") == 0)
         return i % 10 == 9 ? not_canonical(form, e) : ascii(e);
     fail("no such text");
