@@ -45,8 +45,8 @@ _Static_assert(sizeof(size_t) == 8, "the library is made for 64 bits");
 /*
  * The version of this header, and of the library that goes with it. The major number changes where what a function takes or gives has
  * another layout: then every caller is compiled anew. Nothing tests it: an old caller that is linked with a new library reads wrong
- * numbers, and results are written past the room that it has for them. What came before 2.0 had no number, and counts as 1. (OAK_VERSION,
- * below, is another thing: the refusal of a case by its version.)
+ * numbers, and results are written past the room that it has for them. The minor number changes where answers change and the layout does
+ * not. What came before 2.0 had no number, and counts as 1. (OAK_VERSION, below, is another thing: the refusal of a case by its version.)
  */
 #define OAK_VERSION_MAJOR 2
 #define OAK_VERSION_MINOR 1
@@ -99,8 +99,8 @@ enum {
     OAK_CUT_SHORT = 4,
     /* An octet of 80 or above in form 2. place: first; count: deciding. Next: read it as form 1 or 3, or name the octet. */
     OAK_HIGH_OCTET = 5,
-    /* An octet that is not allowed at this point of a control sequence, where behind 9B A1 to FE count as 21 to 7E, and A0 and FF are never
-       allowed. place: its 9B; count: deciding. Next: name the octet. */
+    /* An octet that is not allowed at this point of a control sequence, where A1 to FE, behind the 9B, count as 21 to 7E, and A0 and FF are
+       never allowed. place: its 9B; count: deciding. Next: name the octet. */
     OAK_NOT_ALLOWED = 6,
     /* The digit that passes 999, or the 3B or BB that opens a ninth value of a sequence. place: its 9B; count: deciding. Next: name the
        octet. */
@@ -141,7 +141,7 @@ struct oak_answer {
  *   - in form 1 C1 20, C3 20 and C4 20, in form 2 19 41 20, 19 43 20 and 19 44 20: canonical are 60, 5E and 7E;
  *   - in form 3 23 and 24, by themselves or after CC: canonical are A6 and A8 (and C1 20, C3 20 and C4 20 are);
  *   - a control sequence with a value that begins with the digit 0: canonically 0 has no digits, and no value has leading zeros;
- *   - a control sequence with any octet behind 9B in the upper half, A1 to FE: canonical is the octet 80 below, which it means.
+ *   - a control sequence with any octet, behind its 9B, in the upper half, A1 to FE: canonical is the octet 80 (hex) below, which it means.
  *
  * A conversion counts what was not canonical in the source form, whatever the target. Within one form these are the elements whose octets
  * it altered. Between two forms other elements may get other octets too, and one that is counted may keep its own: 23 of form 3 is counted,
@@ -207,9 +207,9 @@ struct oak_comparison {
 
 /*
  * Words. A graphic character is its code point, plus OAK_UNDERLINED if it is underlined. A control is OAK_CONTROL and its octet. A
- * control sequence is a first word, with its final octet, 40 to 7E, its intermediate octet, 20 to 2F or 0 if none, and the number of its
- * values, 1 to 8, in whichever half it stood; the values, each at most 999, are the words after it. Step over them: a value is no element,
- * and the macros below say nothing of it.
+ * control sequence is a first word, with its final octet, 40 to 7E, and its intermediate octet, 20 to 2F or 0 if none, whichever half they
+ * stood in, and the number of its values, 1 to 8; the values, each at most 999, are the words after it. Step over them: a value is no
+ * element, and the macros below say nothing of it.
  */
 #define OAK_UNDERLINED ((uint32_t)0x01000000)
 #define OAK_CONTROL ((uint32_t)0x02000000)

@@ -149,15 +149,16 @@ def three_octets() -> Iterator[Asked]:
         for octets in itertools.product(range(256), repeat=2):
             text = bytes((first, *octets))
             yield reading(form, text, len(text))
-            yield elements_read(form, text, 1, places=1)
+            yield elements_read(form, text, len(text), places=1)
             yield converting(form, form, text, 2 * len(text))
 
 
 def sequences() -> Iterator[Asked]:
     """Sequences in every kind of spelling and in either half, alone and between others, read, converted, and one by one."""
     chance = random.Random(SEED)
+    points = (*elements.at_points(), *elements.at_points(model.raised), *elements.mixed_points(chance))
     halves = (*elements.upper_sequences(), *elements.mixed_sequences(chance))
-    for octets in (*elements.spelt_sequences(), *elements.sequences(chance), *halves):
+    for octets in (*elements.spelt_sequences(), *elements.sequences(chance), *points, *halves):
         for text in (bytes(octets), b"a" * chance.randrange(20) + bytes(octets) + b"#"):
             yield reading(3, text, room_near(model.read_text(3, text), chance))
             yield converting(3, 3, text, room_near(model.convert_text(3, 3, text), chance))

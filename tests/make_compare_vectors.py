@@ -252,7 +252,7 @@ def near(form: int, chance: random.Random) -> Iterator[Texts]:
 
 def cut_off(form: int) -> list[bytes]:
     """Beginnings of an element, which the end of the text cuts off."""
-    return [bytes.fromhex(text) for text in {1: "C2", 2: "19 1942", 3: "C2 CC CCC2 9B 9B34 9B3B 9B20"}[form].split()]
+    return [bytes.fromhex(text) for text in {1: "C2", 2: "19 1942", 3: "C2 CC CCC2 9B 9B34 9B3B 9B20 9BB4"}[form].split()]
 
 
 def refused(form: int, chance: random.Random) -> Iterator[Texts]:
@@ -325,7 +325,7 @@ def upper_pairs() -> Iterator[Pair]:
     chance = random.Random(f"{SEED} upper")
 
     def some(octets: bytes) -> Sequence[int]:
-        return model.raised(octets, lambda place: chance.randrange(2) == 0)
+        return model.some_raised(octets, chance)
 
     for _ in range(120):
         elements = some_elements(3, chance.randrange(1, 8), chance)
@@ -338,7 +338,8 @@ def upper_pairs() -> Iterator[Pair]:
         yield from (Pair(3, *pair) for pair in [(lower, upper), (upper, lower), (mixed, upper), (lower, mixed)])
         yield from (Pair(3, *pair) for pair in both_ways([(upper, canonical(3, other)), (mixed, in_half(other, some))]))
     for octets in (bytes(octets) for octets in texts.refused_octets(3) if octets[0] == model.SEQUENCE_START):
-        yield from (Pair(3, *pair) for pair in both_ways([(b"A" + bytes(model.raised(octets)), b"A"), (b"A" + bytes(some(octets)), octets)]))
+        pairs = [(b"A" + bytes(model.raised(octets)), b"A"), (b"A" + bytes(some(octets)), octets)]
+        yield from (Pair(3, *pair) for pair in both_ways(pairs))
 
 
 def form_pairs() -> Iterator[Pair]:

@@ -15,7 +15,7 @@ from __future__ import annotations
 import pathlib
 import random
 import sys
-from typing import Iterable, Iterator, NamedTuple, Sequence, Tuple
+from typing import Callable, Iterable, Iterator, NamedTuple, Sequence, Tuple
 
 sys.dont_write_bytecode = True
 import model
@@ -162,13 +162,23 @@ def long_sequences() -> Iterator[Octets]:
                 yield sequence(nine, rest)
 
 
-def disallowed_sequences() -> Iterator[Octets]:
-    """Each octet after digits, a 3B, eight values, a full value and an intermediate, and after two of these: 6 goes before 7."""
-    for parameters in ("1", "12;", ";;;;;;;", ";;;;;;;9", "999", "1;999", ";;;;;;;999", " ", "/", "12;3 ", ";;;;;;; ", "1;999/"):
+# Points of a sequence: behind 9B, digits, a 3B, eight values, a full value and an intermediate, and behind two of these, so that 6 goes
+# before 7; and where only the 39th or the 40th octet is to come.
+POINTS = ["", "1", "12;", ";;;;;;;", ";;;;;;;9", "999", "1;999", ";;;;;;;999", " ", "/", "12;3 ", ";;;;;;; ", "1;999/"]
+POINTS += ["0" * 37, "0" * 38, "0" * 37 + "!", "0" * 35 + "999", "0" * 31 + ";" * 7]
+
+
+def at_points(half: Callable[[Octets], Octets] = lambda octets: octets) -> Iterator[Octets]:
+    """Every octet at each point of a sequence, what stands before it as the half has it; behind some of them a final."""
+    for before in (half(sequence(parameters, "")) for parameters in POINTS):
         for octet in range(256):
-            yield (*sequence(parameters, ""), octet)
+            yield (*before, octet)
             if octet % 16 == 1:
-                yield (*sequence(parameters, ""), octet, 0x6D)
+                yield (*before, octet, 0x6D)
+
+
+def mixed_points(chance: random.Random) -> Iterator[Octets]:
+    return at_points(lambda octets: model.some_raised(octets, chance))
 
 
 def finals() -> Iterator[Octets]:
@@ -194,39 +204,21 @@ def random_sequences(chance: random.Random) -> Iterator[Octets]:
 # Sequences in the upper half. Document 02, No. 6: "after 9B they count as 21 to 7E for every rule of 01".
 
 
-def some_raised(octets: Octets, chance: random.Random) -> Octets:
-    """A sequence with some of its octets in the upper half."""
-    return model.raised(octets, lambda place: chance.randrange(2) == 0)
-
-
-def points() -> Iterator[Octets]:
-    """Each point of a sequence: behind 9B, a digit, a 3B, seven of them, a full value, an intermediate, and two of these."""
-    for parameters in ("", "1", "12;", ";;;;;;;", ";;;;;;;9", "999", "1;999", ";;;;;;;999", " ", "/", "12;3 ", ";;;;;;; ", "1;999/"):
-        yield sequence(parameters, "")
-    yield from (sequence(parameters, "") for parameters in ("0" * 37, "0" * 38, "0" * 37 + "!", "0" * 35 + "999", "0" * 31 + ";" * 7))
-
-
 def upper_sequences() -> Iterator[Octets]:
-    """Every octet at each point of a sequence in the upper half; and the sequences below all there, but for the SPACE."""
-    for before in map(model.raised, points()):
-        yield from ((*before, octet) for octet in range(256))
-    yield from map(model.raised, [*value_sequences(), *counted_sequences(), *finals()])
-    yield from (octets for octets in map(model.raised, long_sequences()) if 0x7F not in octets)
+    """Sequences with every octet raised but the SPACE."""
+    yield from map(model.raised, [*value_sequences(), *counted_sequences(), *long_sequences(), *finals()])
 
 
 def mixed_sequences(chance: random.Random) -> Iterator[Octets]:
-    """The same with some octets there and some not; and the spellings of values, of which each is canonical or not."""
-    for before in points():
-        yield from ((*some_raised(before, chance), octet) for octet in range(256))
-    for octets in (*value_sequences(), *random_sequences(chance), *[*long_sequences(), *spelt_sequences()][::4]):
-        yield some_raised(octets, chance)
+    """Sequences with some octets raised; among them some spellings of values, canonical and not."""
+    lower = [*value_sequences(), *counted_sequences(), *long_sequences(), *finals(), *random_sequences(chance)]
+    yield from (model.some_raised(octets, chance) for octets in [*lower, *chance.sample([*spelt_sequences()], 600)])
 
 
 def sequences(chance: random.Random) -> Iterator[Octets]:
     yield from value_sequences()
     yield from counted_sequences()
     yield from long_sequences()
-    yield from disallowed_sequences()
     yield from finals()
     yield from random_sequences(chance)
 
@@ -470,6 +462,9 @@ def files() -> dict[str, list[str]]:
     found = {f"read_{form}.csv": unlike(reading_line(form, reading) for reading in readings(form)) for form in model.FORMS}
     found["sequences.csv"] = unlike(reading_line(3, reading) for reading in sequence_readings())
     found["spelt_sequences.csv"] = unlike(reading_line(3, Reading(octets)) for octets in spelt_sequences())
+    found["points.csv"] = unlike(reading_line(3, Reading(octets)) for octets in at_points())
+    found["upper_points.csv"] = unlike(reading_line(3, Reading(octets)) for octets in at_points(model.raised))
+    found["mixed_points.csv"] = unlike(reading_line(3, Reading(octets)) for octets in mixed_points(random.Random(SEED)))
     found["upper_sequences.csv"] = unlike(reading_line(3, Reading(octets)) for octets in upper_sequences())
     found["mixed_sequences.csv"] = unlike(reading_line(3, Reading(octets)) for octets in mixed_sequences(random.Random(SEED)))
     found["characters.csv"] = unlike(wording_line(wording) for wording in code_points())

@@ -191,17 +191,20 @@ def form_vectors() -> Iterator[Vector]:
 
 
 def upper_vectors() -> Iterator[Vector]:
-    """Sequences in the upper half, and with some of their octets there, cut at each octet and octet by octet; refused ones too."""
+    """Sequences in the upper half, cut at each octet, and with some of their octets there, octet by octet and cut by chance; refused ones
+    too. Every octet as a piece of its own behind such octets, behind 39 of them too."""
     chance = random.Random(SEED)
     sequences = [tuple(element) for element in elements(3) if element[0] == model.SEQUENCE_START]
     sequences += [octets for octets in texts.refused_octets(3) if octets[0] == model.SEQUENCE_START]
     for octets in sequences:
-        for page in (b"A" + bytes(other) + b"B" for other in (model.raised(octets), texts.some_half(octets, chance))):
-            yield from (Vector(3, told(pieces)) for pieces in in_two(page))
-            yield Vector(3, told_after(by(page, 1)))
+        upper, mixed = (b"A" + bytes(other) + b"B" for other in (model.raised(octets), model.some_raised(octets, chance)))
+        yield from (Vector(3, told(pieces)) for pieces in in_two(upper))
+        yield from (Vector(3, told_after(by(page, 1))) for page in (upper, mixed))
+        yield Vector(3, told(by_chance(mixed, chance)))
     for text in (bytes.fromhex(text) for form, text, _ in model.UPPER if form == 3):
         yield from (Vector(3, told_after(pieces)) for pieces in in_two(text))
-    yield from (Vector(3, told_after([b"\x9B\xB4", bytes([octet])])[:2]) for octet in range(256))
+    for opened in (b"\x9B\xB4", openings(3)[-1]):
+        yield from (Vector(3, told_after([opened, bytes([octet])])[:2]) for octet in range(256))
 
 
 # Carries that are given outright.

@@ -87,8 +87,8 @@ def some_value(chance: random.Random) -> str:
 
 def some_half(octets: Octets, chance: random.Random) -> Octets:
     """A sequence as it is, in the upper half, or in both."""
-    put = chance.choice([0, 0, 1, 2])
-    return model.raised(octets, lambda place: put == 1 or (put == 2 and chance.randrange(2) == 0))
+    halves = [lambda: octets, lambda: octets, lambda: model.raised(octets), lambda: model.some_raised(octets, chance)]
+    return chance.choice(halves)()
 
 
 def some_sequence(form: int, chance: random.Random) -> Octets:
@@ -170,7 +170,7 @@ def damaged(entries: tuple, entry: Callable[[], int], chance: random.Random) -> 
     yield changed(changed(entries, chance.randrange(size), entry()), chance.randrange(size), entry())
 
 
-TELLING = octets_of("19 1B 0A 20 30 39 3B 2F 6D 7E 80 8B 9B A4 A6 C2 C9 CB CC CF E5 FF 41 65")
+TELLING = octets_of("19 1B 0A 20 30 39 3B 2F 6D 7E 80 8B 9B A0 A1 A4 A6 B0 BB C2 C9 CB CC CF E5 ED FF 41 65")
 
 
 def damaged_texts(texts: Iterable[Octets], chance: random.Random) -> Iterator[Octets]:
@@ -536,7 +536,7 @@ def lone_texts(form: int, chance: random.Random) -> Iterator[Octets]:
     yield from (text for _, text in DOCUMENTED)
     yield from (some_text(form, size, chance) for size in (3, 8, 16, 24))
     yield from around_texts(form, refused_octets(form)[:12], chance)
-    yield from (octets_of(text) for each, text, _ in model.RESPELLED if each == form)
+    yield from (octets_of(text) for each, text, _ in [*model.RESPELLED, *model.UPPER[:10]] if each == form)
 
 
 def lone_readings() -> Iterator[Lone]:

@@ -240,6 +240,13 @@ def faulty(form: int, chance: random.Random) -> Iterator[Octets]:
         yield from (case_of(form, on_page(form, page, text, chance)) for page in range(3))
 
 
+def some_faulty(form: int, chance: random.Random) -> Iterator[Octets]:
+    """Each fault on one page, the first, a middle one and the last in turn; in forms 1 and 2, of which a file has room for more, every
+    second of them all."""
+    cases = list(faulty(form, chance))
+    yield from [cases[at + at // 3 % 3] for at in range(0, len(cases), 3)] if form == 3 else cases[::2]
+
+
 def faulty_twice(form: int, chance: random.Random) -> Iterator[Octets]:
     """Faults on two pages: the first page's is answered, wherever in its page it stands."""
     for _ in range(60):
@@ -416,8 +423,7 @@ def page_numbers(case: Octets) -> list[int]:
 def pages_asked(form: int) -> Iterator[Page]:
     chance = random.Random(SEED)
     whole, others = case_lists(form)
-    every = 3 if form == 3 else 2  # a file has room for so many
-    faults = [*list(faulty(form, chance))[::every], *faulty_late(form, chance), *cut_apart(form, chance)]
+    faults = [*some_faulty(form, chance), *faulty_late(form, chance), *cut_apart(form, chance)]
     for case in [*whole, *all_at_once(form), *faults, *chance.sample(others, 100)]:
         yield from (Page(case, page) for page in page_numbers(case))
 

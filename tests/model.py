@@ -10,6 +10,7 @@ from __future__ import annotations
 
 import bisect
 import itertools
+import random
 import unicodedata
 from typing import Callable, Iterator, NamedTuple, Optional, Sequence, Tuple, Union
 
@@ -341,8 +342,8 @@ SEPARATOR = 0x3B
 INTERMEDIATES = range(0x20, 0x30)
 FINALS = range(0x40, 0x7F)
 
-# Document 02, No. 6: "ISO 6429 .. allows A1 to FE inside a sequence, meaning the octet 80 (hex) below. So after 9B they count as 21 to 7E for
-# every rule of 01. A0 and FF stay refused as 6."
+# Document 02, No. 6: "ISO 6429 .. allows A1 to FE inside a sequence, meaning the octet 80 (hex) below. So after 9B they count as 21 to 7E
+# for every rule of 01. A0 and FF stay refused as 6."
 LOWER_HALF = range(0x21, 0x7F)
 UPPER_HALF = range(0xA1, 0xFF)
 
@@ -432,6 +433,11 @@ def counted(octet: int) -> int:
 def raised(octets: Octets, which: Callable[[int], bool] = lambda place: True) -> tuple[int, ...]:
     """A sequence with those of its octets 21 to 7E, behind 9B, put into the upper half that stand at a place asked for."""
     return tuple(o + 0x80 if place and o in LOWER_HALF and which(place) else o for place, o in enumerate(octets))
+
+
+def some_raised(octets: Octets, chance: random.Random) -> tuple[int, ...]:
+    """A sequence with some of its octets in the upper half."""
+    return raised(octets, lambda place: chance.randrange(2) == 0)
 
 
 class Parameters(NamedTuple):
@@ -1250,7 +1256,7 @@ UPPER: list[tuple[int, str, Union[list[int], Answer]]] = [
     (3, "9B AF FE", [70221313, 0]),
     (3, "9B C0", [67125249, 0]),
     (3, "9B C2 65", [67125761, 0, 0x65]),
-    # "A0 and FF stay refused as 6", and so does all that is no octet of a sequence 80 below.
+    # "A0 and FF stay refused as 6", and so is what, 80 below, is no octet of a sequence.
     *((3, f"9B {octet:02X}", Answer(6, 0, 0, 1)) for octet in (*range(0x80, 0xA1), 0xBA, *range(0xBC, 0xC0), 0xFF)),
     (3, "9B B4 A0 ED", Answer(6, 0, 0, 2)),
     (3, "9B B4 FF", Answer(6, 0, 0, 2)),
@@ -1401,5 +1407,5 @@ if __name__ == "__main__":
     check_compared()
     check_respelled()
     check_upper()
-    print("the sixteen readings hold, and so do texts, the whole example of a case, pages in pieces, texts compared, what was respelled and")
-    print("sequences in the upper half")
+    print("the sixteen readings hold, and so do texts, the whole example of a case, pages in pieces, texts compared, what was respelled")
+    print("and sequences in the upper half")

@@ -19,8 +19,8 @@ pub fn word_is_canonical(form: Form, word: u32, last: u8, size: usize) -> bool
     true
 }
 
-// Of a control sequence, by its octets: behind 9B each is of the lower half, and no value begins with the digit 0, behind 9B or behind a 3B.
-// 02, No. 6: "Canonical spelling uses the lower half"; 01: "Values have no leading zeros, 0 is the empty sub-string".
+// Of a control sequence, by its octets: behind 9B each is of the lower half, and no value begins with the digit 0, behind 9B or behind a
+// 3B. 02, No. 6: "Canonical spelling uses the lower half"; 01: "Values have no leading zeros, 0 is the empty sub-string".
 pub fn sequence_is_canonical(octets: &[u8]) -> bool
     ensures { λ r. ⌜ SequenceIsCanonicalPromise (now (octets .entry)) r ⌝ }
 {

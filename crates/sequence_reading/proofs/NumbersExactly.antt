@@ -4,7 +4,7 @@ use Prim.Native.Nat.{ℕ, _+_, _-_, _≤_}
 use mathlib.Core.Path.{_≡_, refl, sym, ap, _∙_, subst, subst₂}
 use mathlib.Core.Logic.{_↔_, _⊎_, inl, inr, ⊎-elim}
 use mathlib.Core.Bool.{Bool, true, false}
-use mathlib.Core.List.{List, [], _∷_}
+use mathlib.Core.List.{List, [], _∷_, _++_}
 use native.Mathlib.Nat.{add-zero}
 use native.Mathlib.Omega.{arith}
 use lib.Dec.{eqb}
@@ -18,11 +18,11 @@ use Rattle.run.proofs.Choices.{pick-case, within-range}
 use Rattle.run.proofs.Range as range
 use Rattle.sorts.specs.Forms.{CSI}
 use Rattle.sequence_reading.specs.declared.Kind.{Kind}
-use Rattle.sequence_reading.specs.declared.Kind.the-variants.{Digit, Separator, Middle, Final, Other}
+use Rattle.sequence_reading.specs.declared.Kind.the-variants.{Digit, Middle, Final, Other}
 use Rattle.sequence_reading.specs.declared.Reading.{Reading}
 use Rattle.sequence_reading.specs.Kinds.{countsAs, kindCounted, kindOf, kindNumber, kindValue, CountsAs, NoneOfThese}
 use Rattle.sequence_reading.specs.Kinds.{CountedRow, KindRow, OfNoSequence}
-use Rattle.sequence_reading.specs.Grammar.{Sequence, RefusesSequence}
+use Rattle.sequence_reading.specs.Grammar.{Sequence, Inside, NotAllowed, no-kind, RefusesSequence, not-allowed}
 use Rattle.sequence_reading.specs.SequenceHead.{sequenceHead, readingOf, readingAt}
 use Rattle.sequence_reading.specs.SequenceNumbers.{readingAnswer, sequenceRead, SequenceRow}
 use Rattle.sequence_reading.specs.Promises.{KindOfPromise, ReadSequencePromise}
@@ -47,7 +47,7 @@ not-within lo hi n f = go (within lo hi n) refl
     go true e = absurd (f (within-range lo hi n e))
     go false e = refl
 
--- what an octet counts as, of the lower half
+-- of what an octet counts as
 module _ (c : ℕ) where
   abbrev Row : Kind → Type 0
   Row k = CountedRow c k (kindNumber k) (kindValue k)
@@ -85,40 +85,40 @@ module _ (c : ℕ) where
   row-6 (CountedRow.no-octet n) e = n
 
 module _ (b : ℕ) where
-  counts : CountsAs b (countsAs b)
-  counts =
+  is-counted : CountsAs b (countsAs b)
+  is-counted =
       pick-case (CountsAs b) (within 0xA1 0xFE b) (b - 0x80) b
       (λ t. CountsAs.lowered (within-range 0xA1 0xFE b t))
       (λ t. CountsAs.itself (out-of 0xA1 0xFE b t))
 
-  counts-as : {c : ℕ} → CountsAs b c → countsAs b ≡ c
-  counts-as (CountsAs.itself n) = rw (not-within 0xA1 0xFE b n)
-  counts-as (CountsAs.lowered r) = rw (le-leb 0xA1 b (r .0), le-leb b 0xFE (r .1))
+  counted-is : {c : ℕ} → CountsAs b c → countsAs b ≡ c
+  counted-is (CountsAs.itself n) = rw (not-within 0xA1 0xFE b n)
+  counted-is (CountsAs.lowered r) = rw (le-leb 0xA1 b (r .0), le-leb b 0xFE (r .1))
 
   -- An octet behind 9B counts as itself, or as the octet 80 below, exactly as document 02 says.
-  pub counts-exactly : (c : ℕ) → CountsAs b c ↔ (countsAs b ≡ c)
-  counts-exactly c = (counts-as, λ e. subst (CountsAs b) e counts)
+  pub counts-as-exactly : (c : ℕ) → CountsAs b c ↔ (countsAs b ≡ c)
+  counts-as-exactly c = (counted-is, λ e. subst (CountsAs b) e is-counted)
 
   abbrev Told-kind : Kind → Type 0
   Told-kind k = KindRow b k (kindNumber k) (kindValue k)
 
   kind-row : Told-kind (kindOf b)
   unfolding kindOf
-  kind-row = (countsAs b, counts, counted-row (countsAs b))
+  kind-row = (countsAs b, is-counted, counted-row (countsAs b))
 
   -- So its kind is that of what it counts as; outside A1 to FE, of itself, by document 01 alone.
-  pub as-counted : {c : ℕ} → CountsAs b c → kindOf b ≡ kindCounted c
+  pub kind-counted : {c : ℕ} → CountsAs b c → kindOf b ≡ kindCounted c
   unfolding kindOf
-  as-counted h = ap kindCounted (counts-as h)
+  kind-counted h = ap kindCounted (counted-is h)
 
   row-kind : {k : Kind} {n v : ℕ} → KindRow b k n v → (kindOf b ≡ k) × (kindNumber (kindOf b) ≡ n) × (kindValue (kindOf b) ≡ v)
   row-kind r =
       let t = row-counted (r .0) (r .2) in
-      let e = as-counted (r .1) ∙ t .0 in
+      let e = kind-counted (r .1) ∙ t .0 in
       (e, ap kindNumber e ∙ t .1, ap kindValue e ∙ t .2)
 
   none-kind : OfNoSequence b → kindOf b ≡ Other
-  none-kind n = as-counted (n .1) ∙ other-kind (n .0) (n .2)
+  none-kind n = kind-counted (n .1) ∙ other-kind (n .0) (n .2)
 
 -- An octet's kind, its number and its value are exactly those of 01's row for what it counts as.
 pub kind-exactly : (b : ℕ) (k : Kind) (n v : ℕ)
@@ -140,13 +140,17 @@ pub kind-kept : (b : ℕ) (r : Kind) → r ≡ kindOf b → KindOfPromise b r
 kind-kept b r e =
     (e, subst (Told-kind b) (sym e) (kind-row b), subst (λ (k : Kind). (kindNumber k ≡ 6) ↔ OfNoSequence b) (sym e) (kind-6-exactly b))
 
--- "A0 and FF stay refused as 6", and so do 7F and 80 to 9F, 9B among them.
-pub stays-6 : (b : ℕ) → ((0x7F ≤ b) × (b ≤ 0xA0)) ⊎ (b ≡ 0xFF) → kindOf b ≡ Other
-stays-6 b h =
+no-kind-of : (b : ℕ) → ((0x7F ≤ b) × (b ≤ 0xA0)) ⊎ (b ≡ 0xFF) → kindOf b ≡ Other
+no-kind-of b h =
     ⊎-elim
     (λ r. range.within kindOf (λ o. Other) 0x7F 0xA1 (unfold kindOf in refl) b (r .0) (omega (arith, r .1)))
     (λ e. range.within kindOf (λ o. Other) 0xFF 0x100 (unfold kindOf in refl) b (omega arith) (omega arith))
     h
+
+-- "A0 and FF stay refused as 6", and so do 7F and 80 to 9F, 9B among them: wherever a sequence has come to, whatever follows.
+pub stays-6 : {s vs : List ℕ} {m : ℕ} → Inside s m vs → (b : ℕ) → ((0x7F ≤ b) × (b ≤ 0xA0)) ⊎ (b ≡ 0xFF) → (t : List ℕ)
+    → RefusesSequence (s ++ (b ∷ t)) 6 (length s)
+stays-6 {m = m} h b k t = not-allowed b t h (subst (NotAllowed m) (sym (no-kind-of b k)) no-kind)
 
 -- ---- the sequence at a place
 

@@ -4,13 +4,13 @@ use Prim.Native.Nat.{ℕ, _+_, _*_, _≤_, _<_}
 use mathlib.Core.Path.{_≡_, refl, sym, ap, ap₂, subst, _∙_}
 use mathlib.Core.List.{List, [], _∷_, _++_, append-assoc, append-nil}
 use native.Mathlib.Omega.{arith}
-use mathlib.Core.Bool.{Bool, true, false}
-use lib.Dec.{leb, ltb, eqb}
+use lib.Dec.{leb, eqb}
 use lib.ListN.{length, length-append}
-use borrow.Author.Tests.{leb-true, leb-false, ltb-true, ltb-false, eqb-true, eqb-false}
+use borrow.Author.Tests.{leb-true, leb-false, eqb-true, eqb-false}
 use Rattle.run.specs.Choice.{pick}
 use Rattle.run.specs.Head.{Head, element, refused, none}
 use Rattle.run.specs.Grammar.{Begins}
+use Rattle.run.proofs.Choices.{pick-case}
 use Rattle.sorts.specs.Forms.{CSI}
 use Rattle.sequence_reading.specs.declared.Kind.{Kind}
 use Rattle.sequence_reading.specs.declared.Kind.the-variants.{Digit, Separator, Middle, Final, Other}
@@ -23,10 +23,10 @@ use Rattle.sequence_reading.specs.Grammar.{Sequence, Decimal, empty, dig
 use Rattle.sequence_reading.specs.Grammar.{lastOf, Inside, SpellsSequence, sequence, NotAllowed, no-kind, late-digit, late-separator}
 use Rattle.sequence_reading.specs.Grammar.{second-middle, Passes, passes-999, ninth, Goes, digit-goes, separator-goes, middle-goes}
 use Rattle.sequence_reading.specs.Grammar.{RefusesSequence, ends, not-allowed, passes, fortieth}
-use Rattle.sequence_reading.specs.SequenceHead.{Fair, numberAt, unless, digitStep, valueStep, middleStep, kindStep, stepOf}
+use Rattle.sequence_reading.specs.SequenceHead.{Fair, unlessLate, unlessFull, digitStep, valueStep, middleStep, kindStep, stepOf}
 use Rattle.sequence_reading.specs.SequenceHead.{after, scan, begun, sequenceHead}
-use Rattle.sequence_reading.proofs.Steps.{middle-says, digit-6, digit-7, digit-8, digit-taken, value-6, value-7, value-8, value-taken}
-use Rattle.sequence_reading.proofs.Steps.{middle-6, middle-8, middle-taken, step-as}
+use Rattle.sequence_reading.proofs.Steps.{middle-says, is-late, not-late, is-full, not-full, digit-late, digit-passes, digit-within}
+use Rattle.sequence_reading.proofs.Steps.{value-late, value-passes, value-within, middle-within, step-as}
 
 -- ---- lists of values
 
@@ -87,7 +87,7 @@ through-decimal (digit {s} {v} {d} b dec e) ws rest k t h g =
     let here = state v k 0 (t + length s) in
     ap (scan ws (state 0 k 0 t)) (append-assoc s (b ∷ []) rest)
     ∙ through-decimal dec ws (b ∷ rest) k t (omega arith) (omega arith)
-    ∙ scan-as ws here b rest (Digit d) _ e (sym (digit-taken here d (v * 10 + d) refl refl h (omega arith)))
+    ∙ scan-as ws here b rest (Digit d) _ e (digit-within here d (v * 10 + d) refl h ∙ not-late here _ refl ∙ not-full here _ (omega arith))
     ∙ ap (λ (n : ℕ). scan ws (state (v * 10 + d) k 0 n) rest) (omega arith)
 
 through-parameters : {p vs : List ℕ} → Parameters p vs → (cs : List ℕ) (c : ℕ) → vs ≡ cs ++ (c ∷ []) → (ws rest : List ℕ) (k t : ℕ)
@@ -107,7 +107,7 @@ through-parameters (joined {s} {p} {vs} {v} b dec e ps) (x ∷ cs) c w ws rest k
     let here = state v k 0 (t + length s) in
     ap (scan ws (state 0 k 0 t)) (append-assoc s (b ∷ p) rest)
     ∙ through-decimal dec ws (b ∷ (p ++ rest)) k t (h .0) (omega arith)
-    ∙ scan-as ws here b (p ++ rest) Separator _ e (sym (value-taken here refl (omega arith) (omega arith)))
+    ∙ scan-as ws here b (p ++ rest) Separator _ e (value-within here (omega arith) ∙ not-late here _ refl ∙ not-full here _ (omega arith))
     ∙ through-parameters ps cs c wr (ws ++ (v ∷ [])) rest (k + 1) (t + length s + 1) (h .1) (omega arith) (omega arith)
     ∙ simp (append-assoc, vx) (ap₂ (λ (i j : ℕ). scan (ws ++ (x ∷ cs)) (state c i 0 j) rest) (omega arith) (omega arith))
 
@@ -116,7 +116,7 @@ through-middle : {i : List ℕ} {m : ℕ} → Intermediate i m → (ws rest : Li
 through-middle grammar.none ws rest c k t h = ap (λ (n : ℕ). scan ws (state c k 0 n) rest) (omega arith)
 through-middle (one {b} {i} e) ws rest c k t h =
     let here = state c k 0 t in
-    scan-as ws here b rest (Middle i) _ e (sym (middle-taken here i refl (omega arith)))
+    scan-as ws here b rest (Middle i) _ e (middle-within here i ∙ not-late here _ refl ∙ not-full here _ (omega arith))
 
 -- the state in which what is inside a sequence leaves the reader
 abbrev pub stateOf : List ℕ → ℕ → List ℕ → Scan
@@ -142,20 +142,21 @@ arrive {s} {vs} {m} h t =
 
 step-not-allowed : {m : ℕ} {k : Kind} → NotAllowed m k → (s : Scan) → s .middle ≡ m → kindStep k s ≡ Bad 6
 step-not-allowed no-kind s e = refl
-step-not-allowed (late-digit {m} {d} h) s e = sym (digit-6 s d (omega arith))
-step-not-allowed (late-separator h) s e = sym (value-6 s (omega arith))
-step-not-allowed (second-middle {m} {i} h) s e = sym (middle-6 s i (omega arith))
+step-not-allowed (late-digit {m} {d} h) s e = digit-late s d (omega arith)
+step-not-allowed (late-separator h) s e = value-late s (omega arith)
+step-not-allowed (second-middle {m} {i} h) s e = middle-within s i ∙ is-late s _ (omega arith)
 
 step-passes : {vs : List ℕ} {k : Kind} → Passes vs k → (s : Scan) → s .middle ≡ 0 → s .current ≡ lastOf vs → s .closed + 1 ≡ length vs
     → kindStep k s ≡ Bad 7
-step-passes (passes-999 {vs} {d} h) s m c n = sym (digit-7 s d m (omega arith))
-step-passes (ninth h) s m c n = sym (value-7 s m (omega arith))
+step-passes (passes-999 {vs} {d} h) s m c n = digit-passes s d (omega arith) ∙ not-late s _ m
+step-passes (ninth h) s m c n = value-passes s (omega arith) ∙ not-late s _ m
 
 step-fortieth : {m : ℕ} {vs : List ℕ} {k : Kind} → Goes m vs k → (s : Scan) → s .middle ≡ m → s .current ≡ lastOf vs
     → s .closed + 1 ≡ length vs → s .taken ≡ 39 → kindStep k s ≡ Bad 8
-step-fortieth (digit-goes {vs} {d} h) s m c n t = sym (digit-8 s d m (omega arith) (omega arith))
-step-fortieth (separator-goes h) s m c n t = sym (value-8 s m (omega arith) (omega arith))
-step-fortieth (middle-goes {vs} {i}) s m c n t = sym (middle-8 s i m (omega arith))
+step-fortieth (digit-goes {vs} {d} h) s m c n t =
+    digit-within s d (s .current * 10 + d) refl (omega arith) ∙ not-late s _ m ∙ is-full s _ (omega arith)
+step-fortieth (separator-goes h) s m c n t = value-within s (omega arith) ∙ not-late s _ m ∙ is-full s _ (omega arith)
+step-fortieth (middle-goes {vs} {i}) s m c n t = middle-within s i ∙ not-late s _ m ∙ is-full s _ (omega arith)
 
 module _ {s vs : List ℕ} {m : ℕ} (h : Inside s m vs) where
   closed-count : length (closedOf vs) + 1 ≡ length vs
@@ -266,18 +267,20 @@ module _ (s ws : List ℕ) (a : Scan) (b : ℕ) (h : Standing s ws a) where
   says-8 : (k : Kind) → kindOf b ≡ k → 39 ≤ a .taken → Goes (a .middle) values k → Says s ws a b (Bad 8)
   says-8 k e f n t = fortieth b t (h .inside) (omega (arith, h .taken, h .inside .short)) (rw e n)
 
-  -- 6, 7, 8 in their order, or else what the octet does
-  number-says : (k : Kind) (n : Next) (past : Bool) → kindOf b ≡ k → (0 < a .middle → NotAllowed (a .middle) k)
-      → (past ≡ true → Passes values k) → (past ≡ false → a .middle ≡ 0 → Goes (a .middle) values k)
-      → (past ≡ false → a .middle ≡ 0 → a .taken < 39 → Says s ws a b n) → Says s ws a b (unless (numberAt a past) n)
-  number-says k n past e late beyond goes f = go (eqb (a .middle) 0) refl past refl (leb 39 (a .taken)) refl
-    where
-      go : (x : Bool) → eqb (a .middle) 0 ≡ x → (y : Bool) → past ≡ y → (z : Bool) → leb 39 (a .taken) ≡ z
-          → Says s ws a b (unless (pick x (pick y 7 (pick z 8 0)) 6) n)
-      go false x y p z t = let m : a .middle ≡ 0 → ⊥ = eqb-false (a .middle) 0 x in says-6 k e (late (omega arith))
-      go true x true p z t = says-7 k e (eqb-true (a .middle) 0 x) (beyond p)
-      go true x false p true t = says-8 k e (leb-true 39 (a .taken) t) (goes p (eqb-true (a .middle) 0 x))
-      go true x false p false t = f p (eqb-true (a .middle) 0 x) (leb-false 39 (a .taken) t)
+  -- after an intermediate 6; at the 40th octet 8
+  unless-late-says : (k : Kind) (n : Next) → kindOf b ≡ k → (0 < a .middle → NotAllowed (a .middle) k) → (a .middle ≡ 0 → Says s ws a b n)
+      → Says s ws a b (unlessLate a n)
+  unless-late-says k n e late f =
+      pick-case (Says s ws a b) (eqb (a .middle) 0) n (Bad 6)
+      (λ z. f (eqb-true (a .middle) 0 z))
+      (λ z. let y : a .middle ≡ 0 → ⊥ = eqb-false (a .middle) 0 z in says-6 k e (late (omega arith)))
+
+  unless-full-says : (k : Kind) (n : Next) → kindOf b ≡ k → Goes (a .middle) values k → (a .taken < 39 → Says s ws a b n)
+      → Says s ws a b (unlessFull a n)
+  unless-full-says k n e g f =
+      pick-case (Says s ws a b) (leb 39 (a .taken)) (Bad 8) n
+      (λ z. says-8 k e (leb-true 39 (a .taken) z) g)
+      (λ z. f (leb-false 39 (a .taken) z))
 
   -- one octet more, of parameters or an intermediate
   module _ (z : a .middle ≡ 0) (r : a .taken < 39) where
@@ -315,29 +318,36 @@ module _ (s ws : List ℕ) (a : Scan) (b : ℕ) (h : Standing s ws a) where
   unfolding digitStep
   digit-says d e =
       let v : ℕ = a .current * 10 + d in
+      let n : Next = More (record { current = v; closed = a .closed; middle = 0; taken = a .taken + 1 }) in
       let l : lastOf values ≡ a .current = last-snoc ws (a .current) in
-      number-says (Digit d) _ (ltb 999 v) e late-digit
-      (λ t. let h′ : 999 < v = ltb-true 999 v t in passes-999 (omega arith))
-      (λ t z. let h′ : v ≤ 999 = ltb-false 999 v t in rw z (digit-goes {vs = values} {d = d} (omega arith)))
-      (λ t z r.
+      unless-late-says (Digit d) (pick (leb v 999) (unlessFull a n) (Bad 7)) e late-digit
+      (λ z. pick-case (Says s ws a b) (leb v 999) (unlessFull a n) (Bad 7)
+      (λ t.
+      let h′ : v ≤ 999 = leb-true v 999 t in
+      unless-full-says (Digit d) n e (rw z (digit-goes {vs = values} {d = d} (omega arith)))
+      (λ r.
       record {
         inside =
             inside-parameter z r (ws ++ (v ∷ [])) (snoc-digit (h .inside .valued) ws (a .current) b refl e)
-            (small-snoc ws v (small-front ws (a .current) (h .inside .small)) (ltb-false 999 v t))
+            (small-snoc ws v (small-front ws (a .current) (h .inside .small)) h′)
             (omega (arith, h .inside .eight, snoc-length ws v, snoc-length ws (a .current)));
         closed = h .closed;
         taken = one-more z r;
-      })
+      }))
+      (λ t. let h′ : 999 < v = leb-false v 999 t in says-7 (Digit d) e z (passes-999 (omega arith))))
 
   value-says : kindOf b ≡ Separator → Says s ws a b (valueStep a)
   unfolding valueStep
   value-says e =
+      let n : Next = Value (record { current = 0; closed = a .closed + 1; middle = 0; taken = a .taken + 1 }) in
       let l : length values ≡ a .closed + 1 = snoc-length ws (a .current) ∙ ap (λ (i : ℕ). i + 1) (sym (h .closed)) in
-      number-says Separator _ (leb 7 (a .closed)) e late-separator
-      (λ t. let h′ : 7 ≤ a .closed = leb-true 7 (a .closed) t in ninth (omega arith))
-      (λ t z. let h′ : a .closed < 7 = leb-false 7 (a .closed) t in rw z (separator-goes {vs = values} (omega arith)))
-      (λ t z r.
+      unless-late-says Separator (pick (leb 7 (a .closed)) (Bad 7) (unlessFull a n)) e late-separator
+      (λ z. pick-case (Says s ws a b) (leb 7 (a .closed)) (Bad 7) (unlessFull a n)
+      (λ t. let h′ : 7 ≤ a .closed = leb-true 7 (a .closed) t in says-7 Separator e z (ninth (omega arith)))
+      (λ t.
       let h′ : a .closed < 7 = leb-false 7 (a .closed) t in
+      unless-full-says Separator n e (rw z (separator-goes {vs = values} (omega arith)))
+      (λ r.
       record {
         inside =
             inside-parameter z r (values ++ (0 ∷ [])) (snoc-separator (h .inside .valued) b e)
@@ -345,15 +355,15 @@ module _ (s ws : List ℕ) (a : Scan) (b : ℕ) (h : Standing s ws a) where
             (omega (arith, snoc-length values 0));
         closed = sym l;
         taken = one-more z r;
-      })
+      })))
 
   middle-step-says : (i : ℕ) → kindOf b ≡ Middle i → Says s ws a b (middleStep a i)
   unfolding middleStep
   middle-step-says i e =
-      number-says (Middle i) _ false e second-middle
-      (λ t. let z : _≡_ {A = ℕ} 0 1 = cc in absurd (omega arith))
-      (λ t z. rw z middle-goes)
-      (λ t z r. record { inside = inside-middle z r i e; closed = h .closed; taken = one-more z r })
+      let n : Next = More (record { current = a .current; closed = a .closed; middle = i; taken = a .taken + 1 }) in
+      unless-late-says (Middle i) (unlessFull a n) e second-middle
+      (λ z. unless-full-says (Middle i) n e (rw z middle-goes)
+      (λ r. record { inside = inside-middle z r i e; closed = h .closed; taken = one-more z r }))
 
   kind-says : (k : Kind) → kindOf b ≡ k → Says s ws a b (kindStep k a)
   kind-says (Digit d) e = digit-says d e

@@ -2,10 +2,9 @@
 -- Assumes nothing.
 use Prim.Native.Nat.{ℕ, _+_, _*_, _-_, _≤_, _<_}
 use mathlib.Core.Path.{_≡_, refl}
-use mathlib.Core.Bool.{Bool, true, false}
 use native.Mathlib.Omega.{arith}
-use lib.Dec.{leb, ltb, eqb}
-use borrow.Author.Tests.{le-leb, lt-leb, lt-ltb, le-ltb, eq-eqb, ne-eqb}
+use lib.Dec.{eqb}
+use borrow.Author.Tests.{le-leb, lt-leb, eq-eqb, ne-eqb}
 use Rattle.run.specs.Choice.{pick, within}
 use Rattle.run.proofs.Choices.{pick-case, within-range}
 use Rattle.run.proofs.Range as range
@@ -15,7 +14,7 @@ use Rattle.sequence_reading.specs.declared.Scan.{Scan}
 use Rattle.sequence_reading.specs.declared.Next.{Next}
 use Rattle.sequence_reading.specs.declared.Next.the-variants.{More, Value, Bad}
 use Rattle.sequence_reading.specs.Kinds.{countsAs, kindCounted, kindOf}
-use Rattle.sequence_reading.specs.SequenceHead.{numberAt, digitStep, valueStep, middleStep, kindStep, stepOf}
+use Rattle.sequence_reading.specs.SequenceHead.{unlessLate, unlessFull, kindStep, digitStep, valueStep, middleStep, stepOf}
 
 -- ---- a kind
 
@@ -61,69 +60,49 @@ final-says b f e = rw e at (carries b)
 -- ---- each outcome of a step, under conditions that `omega` can show
 
 module _ (s : Scan) where
-  number-6 : (past : Bool) → (s .middle ≡ 0 → ⊥) → numberAt s past ≡ 6
-  number-6 past m = simp (ne-eqb (s .middle) 0 m)
+  pub is-late : (n : Next) → (s .middle ≡ 0 → ⊥) → unlessLate s n ≡ Bad 6
+  is-late n m = simp (ne-eqb (s .middle) 0 m)
 
-  number-7 : (past : Bool) → s .middle ≡ 0 → past ≡ true → numberAt s past ≡ 7
-  number-7 past m p = simp (eq-eqb (s .middle) 0 m, p)
+  pub not-late : (n : Next) → s .middle ≡ 0 → unlessLate s n ≡ n
+  not-late n m = simp (eq-eqb (s .middle) 0 m)
 
-  number-8 : (past : Bool) → s .middle ≡ 0 → past ≡ false → 39 ≤ s .taken → numberAt s past ≡ 8
-  number-8 past m p t = simp (eq-eqb (s .middle) 0 m, p, le-leb 39 (s .taken) t)
+  pub is-full : (n : Next) → 39 ≤ s .taken → unlessFull s n ≡ Bad 8
+  is-full n t = simp (le-leb 39 (s .taken) t)
 
-  number-0 : (past : Bool) → s .middle ≡ 0 → past ≡ false → s .taken < 39 → numberAt s past ≡ 0
-  number-0 past m p t = simp (eq-eqb (s .middle) 0 m, p, lt-leb 39 (s .taken) t)
+  pub not-full : (n : Next) → s .taken < 39 → unlessFull s n ≡ n
+  not-full n t = simp (lt-leb 39 (s .taken) t)
 
-  -- a digit
-  module _ (d : ℕ) where
-    pub digit-6 : (s .middle ≡ 0 → ⊥) → Bad 6 ≡ digitStep s d
-    unfolding digitStep
-    digit-6 m = rw (number-6 (ltb 999 (s .current * 10 + d)) m)
+  pub digit-late : (d : ℕ) → (s .middle ≡ 0 → ⊥) → digitStep s d ≡ Bad 6
+  unfolding digitStep
+  digit-late d m = is-late _ m
 
-    pub digit-7 : s .middle ≡ 0 → 999 < s .current * 10 + d → Bad 7 ≡ digitStep s d
-    unfolding digitStep
-    digit-7 m h = rw (number-7 _ m (lt-ltb 999 (s .current * 10 + d) h))
+  pub digit-passes : (d : ℕ) → 999 < s .current * 10 + d → digitStep s d ≡ unlessLate s (Bad 7)
+  unfolding digitStep
+  digit-passes d h = simp (lt-leb (s .current * 10 + d) 999 h)
 
-    pub digit-8 : s .middle ≡ 0 → s .current * 10 + d ≤ 999 → 39 ≤ s .taken → Bad 8 ≡ digitStep s d
-    unfolding digitStep
-    digit-8 m h t = rw (number-8 _ m (le-ltb 999 (s .current * 10 + d) h) t)
+  pub digit-within : (d v : ℕ) → v ≡ s .current * 10 + d → v ≤ 999
+      → digitStep s d ≡ unlessLate s (unlessFull s (More (record { current = v; closed = s .closed; middle = 0; taken = s .taken + 1 })))
+  unfolding digitStep
+  digit-within d v e h = simp (e, le-leb (s .current * 10 + d) 999 (omega arith))
 
-    pub digit-taken : (v : ℕ) → v ≡ s .current * 10 + d → s .middle ≡ 0 → v ≤ 999 → s .taken < 39
-        → More (record { current = v; closed = s .closed; middle = 0; taken = s .taken + 1 }) ≡ digitStep s d
-    unfolding digitStep
-    digit-taken v e m h t = rw (e, number-0 _ m (le-ltb 999 (s .current * 10 + d) (omega arith)) t)
-
-  -- a 3B
-  pub value-6 : (s .middle ≡ 0 → ⊥) → Bad 6 ≡ valueStep s
+  pub value-late : (s .middle ≡ 0 → ⊥) → valueStep s ≡ Bad 6
   unfolding valueStep
-  value-6 m = rw (number-6 (leb 7 (s .closed)) m)
+  value-late m = is-late _ m
 
-  pub value-7 : s .middle ≡ 0 → 7 ≤ s .closed → Bad 7 ≡ valueStep s
+  pub value-passes : 7 ≤ s .closed → valueStep s ≡ unlessLate s (Bad 7)
   unfolding valueStep
-  value-7 m h = rw (number-7 _ m (le-leb 7 (s .closed) h))
+  value-passes h = simp (le-leb 7 (s .closed) h)
 
-  pub value-8 : s .middle ≡ 0 → s .closed < 7 → 39 ≤ s .taken → Bad 8 ≡ valueStep s
+  pub value-within : s .closed < 7
+      → valueStep s ≡ unlessLate s (unlessFull s (Value (record { current = 0; closed = s .closed + 1; middle = 0; taken = s .taken + 1 })))
   unfolding valueStep
-  value-8 m h t = rw (number-8 _ m (lt-leb 7 (s .closed) h) t)
+  value-within h = simp (lt-leb 7 (s .closed) h)
 
-  pub value-taken : s .middle ≡ 0 → s .closed < 7 → s .taken < 39
-      → Value (record { current = 0; closed = s .closed + 1; middle = 0; taken = s .taken + 1 }) ≡ valueStep s
-  unfolding valueStep
-  value-taken m h t = rw (number-0 _ m (lt-leb 7 (s .closed) h) t)
-
-  -- an intermediate
-  module _ (i : ℕ) where
-    pub middle-6 : (s .middle ≡ 0 → ⊥) → Bad 6 ≡ middleStep s i
-    unfolding middleStep
-    middle-6 m = rw (number-6 false m)
-
-    pub middle-8 : s .middle ≡ 0 → 39 ≤ s .taken → Bad 8 ≡ middleStep s i
-    unfolding middleStep
-    middle-8 m t = rw (number-8 false m refl t)
-
-    pub middle-taken : s .middle ≡ 0 → s .taken < 39
-        → More (record { current = s .current; closed = s .closed; middle = i; taken = s .taken + 1 }) ≡ middleStep s i
-    unfolding middleStep
-    middle-taken m t = rw (number-0 false m refl t)
+  pub middle-within : (i : ℕ)
+      → middleStep s i
+      ≡ unlessLate s (unlessFull s (More (record { current = s .current; closed = s .closed; middle = i; taken = s .taken + 1 })))
+  unfolding middleStep
+  middle-within i = refl
 
 -- a step goes by the octet's kind
 pub step-as : (s : Scan) (b : ℕ) (k : Kind) → kindOf b ≡ k → stepOf s b ≡ kindStep k s

@@ -1,7 +1,7 @@
 -- Document 02, No. 6: behind 9B an octet of the upper half is read as its twin, so a sequence with any of its octets put there spells the
 -- same, or is refused with the same number at the same octet.
 -- Assumes nothing.
-use Prim.Native.Nat.{ℕ, suc, _+_, _-_, _≤_}
+use Prim.Native.Nat.{ℕ, suc, _+_, _-_}
 use mathlib.Core.Path.{_≡_, refl, sym, ap, subst, _∙_}
 use mathlib.Core.Logic.{_↔_}
 use mathlib.Core.Bool.{Bool, true, false}
@@ -20,7 +20,7 @@ use Rattle.sequence_reading.specs.declared.Next.{Next}
 use Rattle.sequence_reading.specs.declared.Next.the-variants.{More, Value, Last, Bad}
 use Rattle.sequence_reading.specs.Kinds.{countsAs, kindOf}
 use Rattle.sequence_reading.specs.Grammar.{Sequence, SpellsSequence, RefusesSequence}
-use Rattle.sequence_reading.specs.SequenceHead.{kindStep, stepOf, after, scan, sequenceHead}
+use Rattle.sequence_reading.specs.SequenceHead.{stepOf, after, scan, sequenceHead}
 use Rattle.sequence_reading.specs.Twins.{Twin, as-it-is, raised, Twins, none, and}
 use Rattle.sequence_reading.proofs.Reader.{sequence-reads, refuses-exactly}
 
@@ -87,7 +87,7 @@ module _ {s t : List ℕ} (h : Twins s t) where
     λ k. refuses-exactly s r d .0 (twins-head h ∙ refuses-exactly t r d .1 k),
   )
 
--- ---- the lower half
+-- ---- what it counts as
 
 -- what an octet counts as, and the octet
 counted-twin : (b : ℕ) → Twin (countsAs b) b

@@ -1,5 +1,6 @@
 -- To be believed: a control sequence, in the words of document 01. Which octets spell which sequence, and which octets are refused,
--- with which number at which octet. Nothing here speaks of a reader.
+-- with which number at which octet. What an octet is inside one is `kindOf` of Kinds, with document 02, No. 6. Nothing here speaks of a
+-- reader.
 -- Assumes nothing.
 use Prim.Native.Nat.{ℕ, _+_, _*_, _≤_, _<_}
 use mathlib.Core.Path.{_≡_}

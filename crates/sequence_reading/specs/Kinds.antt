@@ -1,4 +1,5 @@
--- To be believed: what an octet is inside a control sequence of form 3 (document 01, "Control sequence, form 3"; document 02, No. 6).
+-- To be believed, as relations: what an octet is inside a control sequence of form 3 (document 01, "Control sequence, form 3"; document 02,
+-- No. 6). Proved equal to them, the definitions that give it (NumbersExactly: counts-as-exactly, kind-exactly).
 -- Assumes nothing.
 use Prim.Native.Nat.{ℕ, _-_, _≤_}
 use mathlib.Core.Path.{_≡_}
@@ -9,8 +10,10 @@ use Rattle.sequence_reading.specs.declared.Kind.{Kind}
 use Rattle.sequence_reading.specs.declared.Kind.the-variants.{Digit, Separator, Middle, Final, Other}
 
 -- ---- Document 02, No. 6: "ISO 6429, as printed in Annex D of source document 000, allows A1 to FE inside a sequence, meaning the octet 80
--- (hex) below. So after 9B they count as 21 to 7E for every rule of 01. A0 and FF stay refused as 6." Annex D: "the bit combinations in the
--- range 10/1 to 15/14 have the same meanings as the corresponding bit combination in the range 2/1 to 7/14".
+-- (hex) below. So after 9B they count as 21 to 7E for every rule of 01. A0 and FF stay refused as 6." Annex D: "the bit combination of
+-- columns 10 to 15 (except 10/0 and 15/15) are permitted to represent: .. parameters, intermediates and finals of a control sequence; .. In
+-- these situations, the bit combinations in the range 10/1 to 15/14 have the same meanings as the corresponding bit combination in the
+-- range 2/1 to 7/14."
 
 -- the octet that an octet behind 9B counts as
 abbrev pub countsAs : ℕ → ℕ
@@ -41,7 +44,7 @@ kindNumber (Middle i) = 0
 kindNumber (Final f) = 0
 kindNumber Other = 6
 
--- a digit's value; an intermediate and a final are their octets; 0 where there is no value
+-- a digit's value; an intermediate and a final are the octets that they count as; 0 where there is no value
 abbrev pub kindValue : Kind → ℕ
 kindValue (Digit d) = d
 kindValue Separator = 0
@@ -70,7 +73,7 @@ IntermediateOctet b = (0x20 ≤ b) × (b ≤ 0x2F)
 abbrev pub FinalOctet : ℕ → Type 0
 FinalOctet b = (0x40 ≤ b) × (b ≤ 0x7E)
 
--- no octet of a sequence, by 01
+-- none of these, by 01
 abbrev pub NoneOfThese : ℕ → Type 0
 NoneOfThese c = (ParameterOctet c → ⊥) × (IntermediateOctet c → ⊥) × (FinalOctet c → ⊥)
 
@@ -86,5 +89,6 @@ pub data CountedRow (c : ℕ) : Kind → ℕ → ℕ → Type 0 where
 abbrev pub KindRow : ℕ → Kind → ℕ → ℕ → Type 0
 KindRow b k n v = (c : ℕ) × CountsAs b c × CountedRow c k n v
 
+-- no octet of a sequence
 abbrev pub OfNoSequence : ℕ → Type 0
 OfNoSequence b = (c : ℕ) × CountsAs b c × NoneOfThese c

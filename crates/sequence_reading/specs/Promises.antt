@@ -14,7 +14,8 @@ use Rattle.sequence_reading.specs.EightValues.{listOf}
 use Rattle.sequence_reading.specs.SequenceHead.{readingAt}
 use Rattle.sequence_reading.specs.SequenceNumbers.{readingAnswer, sequenceRead, SequenceRow}
 
--- what an octet is inside a sequence: its kind, number and value stand in 01's row, and 6 is given exactly for what is no octet of one
+-- what an octet is inside a sequence: its kind, number and value stand in 01's row for what it counts as, and 6 is given exactly for what
+-- is no octet of one
 abbrev pub KindOfPromise : ℕ → Kind → Type 0
 KindOfPromise b r = (r ≡ kindOf b) × KindRow b r (kindNumber r) (kindValue r) × ((kindNumber r ≡ 6) ↔ OfNoSequence b)
 

@@ -2,10 +2,9 @@
 -- of a control sequence answers, octet by octet, from the 9B on. A part of the code: `Fair`.
 -- Assumes nothing.
 use Prim.Native.Nat.{ℕ, _+_, _*_, _≤_}
-use mathlib.Core.Bool.{Bool, false}
 use mathlib.Core.List.{List, [], _∷_, _++_}
 use lib.ListN.{length, drop}
-use lib.Dec.{leb, ltb, eqb}
+use lib.Dec.{leb, eqb}
 use Rattle.run.specs.Choice.{pick}
 use Rattle.run.specs.Head.{Head, element, refused, none}
 use Rattle.sorts.specs.Forms.{CSI}
@@ -22,30 +21,35 @@ use Rattle.sequence_reading.specs.EightValues.{valuesOf}
 
 -- ---- one octet
 
--- the number at an octet that is a parameter or an intermediate, where `passes` says whether it passes a limit of the values: "at one octet
--- 5 goes first, then 6, 7, 8"
-abbrev pub numberAt : Scan → Bool → ℕ
-numberAt s passes = pick (eqb (s .middle) 0) (pick passes 7 (pick (leb 39 (s .taken)) 8 0)) 6
+-- number 6 after an intermediate
+abbrev pub unlessLate : Scan → Next → Next
+unlessLate s n = pick (eqb (s .middle) 0) n (Bad 6)
 
--- what it does, unless it is refused
-abbrev pub unless : ℕ → Next → Next
-unless n x = pick (eqb n 0) x (Bad n)
+-- number 8 where this is the 40th octet
+abbrev pub unlessFull : Scan → Next → Next
+unlessFull s n = pick (leb 39 (s .taken)) (Bad 8) n
 
 -- a digit: number 7 where the value passes 999
 unfoldable pub digitStep : Scan → ℕ → Next
 digitStep s d =
-    let v : ℕ = s .current * 10 + d in
-    unless (numberAt s (ltb 999 v)) (More (record { current = v; closed = s .closed; middle = 0; taken = s .taken + 1 }))
+    unlessLate s
+    (pick (leb (s .current * 10 + d) 999)
+    (unlessFull s (More (record { current = s .current * 10 + d; closed = s .closed; middle = 0; taken = s .taken + 1 })))
+    (Bad 7))
 
 -- a 3B: number 7 where it opens a ninth value
 unfoldable pub valueStep : Scan → Next
 valueStep s =
-    unless (numberAt s (leb 7 (s .closed))) (Value (record { current = 0; closed = s .closed + 1; middle = 0; taken = s .taken + 1 }))
+    unlessLate s
+    (pick (leb 7 (s .closed))
+    (Bad 7)
+    (unlessFull s (Value (record { current = 0; closed = s .closed + 1; middle = 0; taken = s .taken + 1 }))))
 
 -- an intermediate
 unfoldable pub middleStep : Scan → ℕ → Next
 middleStep s i =
-    unless (numberAt s false) (More (record { current = s .current; closed = s .closed; middle = i; taken = s .taken + 1 }))
+    unlessLate s
+    (unlessFull s (More (record { current = s .current; closed = s .closed; middle = i; taken = s .taken + 1 })))
 
 abbrev pub kindStep : Kind → Scan → Next
 kindStep (Digit d) s = digitStep s d

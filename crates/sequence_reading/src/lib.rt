@@ -79,7 +79,7 @@ pub fn kind_of(b: u8) -> Kind
     }
 }
 
-// 01: "40 octets in all, 9B counted", so as many before the final.
+// 01: "40 octets in all, 9B counted", so 39 before the final.
 const BEFORE_FINAL: usize = 39;
 
 // 01: "at one octet 5 goes first, then 6, 7, 8": 6 after an intermediate, where only a final is allowed; 7, "the digit that passes 999"; 8,
@@ -96,7 +96,7 @@ fn digit_step(s: Scan, d: u8) -> Next
         return Next::Bad(7);
     }
     if BEFORE_FINAL <= s.taken {
-        return Next::Bad(8);
+        return Next::Bad(8); // of a digit
     }
     Next::More(Scan {
         current: v,
@@ -137,7 +137,7 @@ fn middle_step(s: Scan, i: u8) -> Next
         return Next::Bad(6);
     }
     if BEFORE_FINAL <= s.taken {
-        return Next::Bad(8); // an intermediate passes no limit of the values
+        return Next::Bad(8);
     }
     Next::More(Scan {
         current: s.current,

@@ -17,6 +17,7 @@ use Rattle.sequence_reading.specs.declared.Kind.the-variants.{Digit, Separator,
 use Rattle.sequence_reading.specs.Kinds.{kindOf, kindNumber, kindValue, CountsAs, CountedRow}
 use Rattle.sequence_reading.specs.Grammar as grammar
 use Rattle.sequence_reading.specs.Grammar.{Sequence, Decimal, empty, digit, Parameters, Intermediate, SpellsSequence, sequence}
+use Rattle.sequence_reading.specs.Twins.{Twins, none, and, as-it-is, raised}
 use Rattle.sequence_reading.proofs.NumbersExactly.{kind-exactly}
 use Rattle.sequence_spelling.specs.SequenceOctets as spelling
 use Rattle.sequence_spelling.specs.SequenceOctets.{Numeral, first, next, Numerals, single, joined, MiddleOctet, one}
@@ -125,7 +126,8 @@ free-numeral h t e = ⊎-elim (λ n. n) (λ f. let z : _≡_ {A = ℕ} 0 1 = cc 
 
 -- ---- the values
 
-joined-passes : {s : List ℕ} {v : ℕ} → Numeral s v → (p t : List ℕ) → canonicalBehind true ((s ++ (0x3B ∷ p)) ++ t) ≡ canonicalBehind true (p ++ t)
+joined-passes : {s : List ℕ} {v : ℕ} → Numeral s v → (p t : List ℕ)
+    → canonicalBehind true ((s ++ (0x3B ∷ p)) ++ t) ≡ canonicalBehind true (p ++ t)
 joined-passes {s} n p t = ap (canonicalBehind true) (append-assoc s (0x3B ∷ p) t) ∙ numeral-passes n (0x3B ∷ (p ++ t)) refl
 
 numerals-pass : {p vs : List ℕ} → Numerals p vs → (t : List ℕ) → canonicalBehind true t ≡ canonicalBehind false t
@@ -184,3 +186,17 @@ canonical-behind h = (passes-canonical h, canonical-passes)
 pub canonical-low : {o : ℕ} {p : List ℕ} {q : Sequence} → CanonicalSequence (o ∷ p) q → (s : List ℕ) (b : ℕ) (t : List ℕ) → p ≡ s ++ (b ∷ t)
     → b < 0x80
 canonical-low h s b t e = low-at true s b t (ap (canonicalBehind true) (sym e) ∙ canonical-passes h)
+
+-- where the test passes on an octet and what follows it, it passes on what follows
+behind-it : (x y more : Bool) → pick x false (pick y false more) ≡ true → more ≡ true
+behind-it true y more e = let z : _≡_ {A = ℕ} 0 1 = cc in absurd (omega arith)
+behind-it false true more e = let z : _≡_ {A = ℕ} 0 1 = cc in absurd (omega arith)
+behind-it false false more e = e
+
+-- Octets that were put into the upper half fail the test: where it passes, none was.
+pub twins-low : {p r : List ℕ} → Twins p r → (begins : Bool) → canonicalBehind begins r ≡ true → p ≡ r
+twins-low none begins e = refl
+twins-low (and {b} {s = p} as-it-is h) begins e =
+    ap (λ (l : List ℕ). b ∷ l) (twins-low h (eqb b 0x3B) (behind-it (leb 0x80 b) (pick begins (eqb b 0x30) false) _ e))
+twins-low (and {t = t} (raised {b} l u) h) begins e =
+    let o : 0x80 + b < 0x80 = low-at begins [] (0x80 + b) t e in absurd (omega arith)

@@ -14,7 +14,7 @@ use Rattle.sorts.specs.Forms.{CSI}
 use Rattle.sequence_reading.specs.Grammar.{Sequence, Small}
 
 -- ---- the relation: "Values have no leading zeros, 0 is the empty sub-string, and the number of values is kept." 02, No. 6: "Canonical
--- spelling uses the lower half": the octets 21 to 7E themselves.
+-- spelling uses the lower half": the octets 20 to 7E themselves.
 
 -- a value without leading zeros; 0 is the empty sub-string
 pub data Numeral : List ℕ → ℕ → Type 0 where
@@ -101,8 +101,8 @@ putSequence out at q = pick (isFine q) (whatFits out at (spellSequence q)) []
 
 -- ---- the test of a canonical spelling, of octets that spell a sequence, behind their 9B
 
--- each octet is of the lower half: 02, No. 6: "Canonical spelling uses the lower half"; and no value begins with the digit 0: "Values have no
--- leading zeros, 0 is the empty sub-string"; `begins`: a value begins here
+-- each octet is of the lower half: 02, No. 6: "Canonical spelling uses the lower half"; and no value begins with the digit 0: "Values have
+-- no leading zeros, 0 is the empty sub-string"; `begins`: a value begins here
 abbrev pub canonicalBehind : Bool → List ℕ → Bool
 canonicalBehind begins [] = true
 canonicalBehind begins (b ∷ s) =

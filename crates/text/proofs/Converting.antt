@@ -1,6 +1,7 @@
--- Conversion as respelling: what it accepts and refuses, what it means, and that two texts of the same elements are respelt alike.
+-- Conversion as respelling: what it accepts and refuses, what it means, and that two texts of the same elements are respelt alike, and
+-- those that differ only in the half of their sequences to the same.
 -- Assumes nothing.
-use Prim.Native.Nat.{ℕ, suc, _+_, _≤_}
+use Prim.Native.Nat.{ℕ, _+_, _≤_}
 use mathlib.Core.Path.{_≡_, refl, sym, ap, ap₂, _∙_, subst}
 use mathlib.Core.Logic.{_↔_}
 use mathlib.Core.List.{List, [], _∷_, _++_}
@@ -16,16 +17,14 @@ use Rattle.run.specs.Answers.{given, same, afterReading}
 use Rattle.run.proofs.Outcomes as outcomes
 use Rattle.run.proofs.Spellers.{spelt-not, why}
 use Rattle.sorts.specs.declared.Form.{Form}
-use Rattle.sequence_reading.proofs.Twins.{twins-length}
 use Rattle.sorts.specs.declared.FormFound.the-variants.{Is}
 use Rattle.sorts.specs.Forms.{formOf}
 use Rattle.element_words.specs.declared.Element.{Element}
-use Rattle.element_words.specs.Words.{sequenceElement}
-use Rattle.element_reading.specs.Grammar.{Spells, Refuses}
+use Rattle.element_reading.specs.Grammar.{Spells}
 use Rattle.element_reading.specs.Raised.{Raised}
 use Rattle.element_reading.specs.ElementHead.{headIn}
 use Rattle.element_reading.proofs.Reader.{reads, begins-head, refuses-exactly-by}
-use Rattle.element_reading.proofs.Raised.{raised-spells, raised-refuses, raised-outcome}
+use Rattle.element_reading.proofs.Raised.{raised-same, raised-outcome}
 use Rattle.element_reading.proofs.ReadBack.{read-held}
 use Rattle.element_spelling.specs.ElementOctets.{CanonicalElement, Held, spellElement}
 use Rattle.element_spelling.proofs.Writer.{canonical-given, canonical-some}
@@ -175,29 +174,22 @@ module _ (f g h : Form) where
 
 -- ---- document 02, No. 6: octets of a text's sequences in the upper half
 
-module _ (f g : Form) where
-  -- two pieces of one size that spell the same element, before what is respelt the same
-  same-more : {p q : List ℕ} {e : Element} → Spells f p e → Spells f q e → length p ≡ length q → (s t : List ℕ)
-      → respellIn f g s ≡ respellIn f g t → (x : List ℕ) → spellElement g e ≡ x → respellIn f g (p ++ s) ≡ respellIn f g (q ++ t)
-  same-more sp sq l s t h [] z = head-none f g sp s z ∙ sym (head-none f g sq t z)
-  same-more sp sq l s t h (b ∷ o) z =
-      head-some f g sp s b o z
-      ∙ ap₂ (λ (n : ℕ) (y : Outcome (List ℕ)). join ((b ∷ o) ∷ []) n y) l h
-      ∙ sym (head-some f g sq t b o z)
+-- an outcome behind an element of which the speller gives these octets
+abbrev behind : List ℕ → ℕ → Outcome (List ℕ) → Outcome (List ℕ)
+behind [] k x = refusal 10 0 0 0
+behind (b ∷ s) k x = join ((b ∷ s) ∷ []) k x
 
-  stops : (s : List ℕ) (n d : ℕ) → Refuses f s n d → respellIn f g s ≡ refusal n 0 0 d
-  stops s n d h =
-      outcomes.outcome-stop (respell-reads f g) s n d (ap (speltHead (spellElement g)) (refuses-exactly-by f s n d .1 h))
+module _ (f g : Form) where
+  head-behind : {p : List ℕ} {e : Element} → Spells f p e → (t s : List ℕ) → spellElement g e ≡ s
+      → respellIn f g (p ++ t) ≡ behind s (length p) (respellIn f g t)
+  head-behind sp t [] q = head-none f g sp t q
+  head-behind sp t (b ∷ s) q = head-some f g sp t b s q
 
   respelt-raised : {s t : List ℕ} → Raised f s t → respellIn f g s ≡ respellIn f g t
-  respelt-raised Raised.rest = refl
-  respelt-raised (Raised.as-it-was {p} {s} {t} {e} sp h) = same-more sp sp refl s t (respelt-raised h) (spellElement g e) refl
-  respelt-raised (Raised.in-sequence {s = s} {t} {q} k sp w h) =
-      same-more (Spells.sequence k sp) (Spells.sequence k (raised-spells f k w q sp)) (ap suc (twins-length w)) s t (respelt-raised h)
-      (spellElement g (sequenceElement q)) refl
-  respelt-raised (Raised.in-refused {o} {n} {d} {p} {r} k rf w) =
-      stops (o ∷ p) n d (Refuses.in-sequence k rf)
-      ∙ sym (stops (o ∷ r) n d (Refuses.in-sequence k (raised-refuses f k w n d rf)))
+  respelt-raised =
+      raised-same f (respellHead f g) (λ e. behind (spellElement g e)) (λ p t e sp. head-behind sp t (spellElement g e) refl)
+      (λ s n d h. outcomes.outcome-stop (respell-reads f g) s n d
+      (ap (speltHead (spellElement g)) (refuses-exactly-by f s n d .1 h)))
 
   pub converts-raised : {s t : List ℕ} → Raised f s t → convertIn f g s ≡ convertIn f g t
   unfolding convertIn

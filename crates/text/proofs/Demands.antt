@@ -1049,28 +1049,38 @@ module _ (form : ℕ) (f : Form) (is-form : formOf form ≡ Is f) {s t : List �
       → (q .answer ≡ r .answer) × (w ≡ v)
   unfolding readAnswer readWords
   raised-reads words p p′ =
-      let n = raised-length f raised in
-      let x = raised-outcome f raised in
+      let size = raised-length f raised in
+      let means = raised-outcome f raised in
       let answers : readAnswer form s (length words) ≡ readAnswer form t (length words) =
-      rw is-form (ap₂ (λ (n : ℕ) (x : Outcome Element). pick (leb n limit) (answerOf wordsOf n (length words) x) (bare 12)) n x) in
+      rw is-form
+      (ap₂ (λ (n : ℕ) (x : Outcome Element). pick (leb n limit) (answerOf wordsOf n (length words) x) (bare 12)) size means) in
       let writes : readWords form s words ≡ readWords form t words =
-      rw is-form (ap₂ (λ (n : ℕ) (x : Outcome Element). pick (leb n limit) (writtenOf wordsOf words x) words) n x) in
+      rw is-form (ap₂ (λ (n : ℕ) (x : Outcome Element). pick (leb n limit) (writtenOf wordsOf words x) words) size means) in
       (four (p .0) ∙ answers ∙ sym (four (p′ .0)), p .1 ∙ writes ∙ sym (p′ .1))
 
-  -- and it converts to the same octets, within its form too, or is refused the same.
+  -- it converts to the same octets, within its form too, or is refused the same;
   pub raised-converts : (target : ℕ) (out : List ℕ) {q r : ReadAnswer} {w v : List ℕ} → ConvertPromise form target s out q w
       → ConvertPromise form target t out r v → (q .answer ≡ r .answer) × (w ≡ v)
   unfolding convertAnswer convertText
   raised-converts target out p p′ =
-      let n = raised-length f raised in
-      let x : (g : Form) → convertIn f g s ≡ convertIn f g t = λ g. converts-raised f g raised in
+      let size = raised-length f raised in
+      let gives : (g : Form) → convertIn f g s ≡ convertIn f g t = λ g. converts-raised f g raised in
       let answers : convertAnswer form target s (length out) ≡ convertAnswer form target t (length out) =
       rw is-form (same-in (formOf target) _ _ _
-      (λ g. ap₂ (λ (n : ℕ) (x : Outcome (List ℕ)). pick (leb n limit) (answerOf same n (length out) x) (bare 12)) n (x g))) in
+      (λ g. ap₂ (λ (n : ℕ) (x : Outcome (List ℕ)). pick (leb n limit) (answerOf same n (length out) x) (bare 12)) size (gives g))) in
       let writes : convertText form target s out ≡ convertText form target t out =
       rw is-form (same-in (formOf target) _ _ _
-      (λ g. ap₂ (λ (n : ℕ) (x : Outcome (List ℕ)). pick (leb n limit) (writtenOf same out x) out) n (x g))) in
+      (λ g. ap₂ (λ (n : ℕ) (x : Outcome (List ℕ)). pick (leb n limit) (writtenOf same out x) out) size (gives g))) in
       (four (p .0) ∙ answers ∙ sym (four (p′ .0)), p .1 ∙ writes ∙ sym (p′ .1))
+
+  -- and where the text is canonical, converting the other within the form gives the text back, in the lower half, with room for it.
+  pub raised-home : (out : List ℕ) (es : List Element) → RunOf (CanonicalElement f) s es → length s ≤ limit → length s ≤ length out
+      → {r : ReadAnswer} {v : List ℕ} → ConvertPromise form form t out r v
+      → (r .answer ≡ answer 0 (length es) (length s) (length s)) × (take (length s) v ≡ s)
+  raised-home out es c l h {r} {v} p =
+      let home = respelt-again form f is-form s out es l c h in
+      let both = raised-converts form out (refl, refl) p in
+      (sym (both .0) ∙ home .0, ap (take (length s)) (sym (both .1) ∙ home .1) ∙ take-append-seam s (drop (length s) out))
 
 -- ======== "Sixteen readings to prove": all of them and only these, as one table under one claim, by computation
 

@@ -124,6 +124,9 @@ fn main() {
     run_file(b"read_3.csv", Asked::Reading(Form::Basic));
     run_file(b"sequences.csv", Asked::Reading(Form::Basic));
     run_file(b"spelt_sequences.csv", Asked::Reading(Form::Basic));
+    run_file(b"points.csv", Asked::Reading(Form::Basic));
+    run_file(b"upper_points.csv", Asked::Reading(Form::Basic));
+    run_file(b"mixed_points.csv", Asked::Reading(Form::Basic));
     run_file(b"upper_sequences.csv", Asked::Reading(Form::Basic));
     run_file(b"mixed_sequences.csv", Asked::Reading(Form::Basic));
     run_file(b"characters.csv", Asked::Words);

@@ -18,7 +18,7 @@ pub enum Refusal {
     CutShort = 4,
     /// An octet of 80 or above in the form of seven bits.
     HighOctet = 5,
-    /// An octet that is not allowed at this point of a control sequence.
+    /// An octet that is not allowed at this point of a control sequence, where A1 to FE, behind the 9B, count as 21 to 7E.
     NotAllowed = 6,
     /// A value over 999, or a ninth one, in a control sequence.
     PassesLimit = 7,

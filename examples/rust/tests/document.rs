@@ -320,9 +320,10 @@ fn a_reading_says_how_many_elements_were_not_canonical() {
     assert_eq!(respelled(Form::Basic, sequences), Ok(4));
 }
 
+/// Document 02, No. 6: after 9B, A1 to FE count as 21 to 7E.
 #[test]
 fn sequences_with_the_top_bit_set() {
-    // Behind 9B, A1 to FE count as 21 to 7E; outside a sequence B4 and ED are themselves.
+    // Outside a sequence B4 and ED mean what they meant.
     let lower = b"\x9B4;12!m\xB4\xED\x9B L";
     let upper = b"\x9B\xB4\xBB\xB1\xB2\xA1\xED\xB4\xED\x9B \xCC";
     let mixed = b"\x9B4\xBB1\xB2!\xED\xB4\xED\x9B L";
@@ -332,7 +333,7 @@ fn sequences_with_the_top_bit_set() {
         let respelt = convert(Form::Basic, Form::Basic, text);
         assert_eq!(respelt, conversion(lower, respelled));
     }
-    // A0 and FF are in neither half, and 1B is not 9B.
+    // A0, FF and a second 9B are in neither half, and 1B is not 9B.
     let refused = |refusal, count| Err(error(refusal, 0, 0, count, 0));
     for text in [b"\x9B\xA0m", b"\x9B\xFFm", b"\x9B\x9Bm"] {
         assert_eq!(read(Form::Basic, text), refused(Refusal::NotAllowed, 1));
