@@ -33,7 +33,7 @@ shared-slice-read-if3 c = search needs
 returns-2 : tie.Need-returns-2 Inv-loop μ-loop
 returns-2 c =
     let at = c .before .before in
-    left-upper _ _ (at .before .loop .inv) (at .loop-test .taken) (c .if3 .taken)
+    left-upper _ _ (at .before .loop .inv) (at .loop-test .taken) (omega arith)
 
 shared-slice-read-if4 : tie.Need-shared-slice-read-if4 Inv-loop μ-loop
 shared-slice-read-if4 c = search needs
