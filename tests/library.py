@@ -143,13 +143,13 @@ def short() -> Iterator[Asked]:
 
 
 def three_octets() -> Iterator[Asked]:
-    """All texts of SS2 and two octets in form 2, and of CC or 9B and two octets in form 3: read, their first element by itself, and
-    converted within the form."""
-    for form, first in ((2, model.SS2), (3, model.UNDERLINE), (3, model.SEQUENCE_START)):
+    """All texts of SS2 and two octets in form 2, and of CC or 9B and two octets in form 3: read, their first element by itself, with just
+    the room that it may need, and converted within the form."""
+    for form, first, most in ((2, model.SS2, 1), (3, model.UNDERLINE, 1), (3, model.SEQUENCE_START, 3)):
         for octets in itertools.product(range(256), repeat=2):
             text = bytes((first, *octets))
             yield reading(form, text, len(text))
-            yield elements_read(form, text, len(text), places=1)
+            yield elements_read(form, text, most, places=1)
             yield converting(form, form, text, 2 * len(text))
 
 
