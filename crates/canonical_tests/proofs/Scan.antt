@@ -8,13 +8,10 @@ use native.Mathlib.Omega.{arith}
 use lib.Dec.{leb, eqb}
 use lib.ListN.{length, get_or, drop, drop_of_length-le, get_or-eq_default}
 use borrow.Author.Tests.{eq-eqb, ne_eqb, eqb-true, lt-ltb, le-ltb, le-leb, lt-leb, leb-true, leb-false}
-use types.Run.{OneOf, miss}
-use denote.Enum.Declared.{tag_of}
 use Rattle.run.specs.Choice.{pick}
 use Rattle.run.proofs.FromPlace.{at_place}
 use Rattle.sorts.specs.declared.Form.{Form}
 use Rattle.sorts.specs.declared.Form.TheVariants.{Eight, Seven, Basic}
-use Rattle.sorts.specs.contracts.Form.{the_type}
 use Rattle.sequence_spelling.specs.SequenceOctets.{canonical_behind}
 use Rattle.canonical_tests.specs.Tests.{word_canonical}
 
@@ -106,15 +103,12 @@ module _ (word last size : ℕ) where
       turned true = refl
       turned false = refl
 
-  abbrev not_basic : List ℕ
-  not_basic = 0 ∷ 1 ∷ []
-
-  pub ascii : (f : Form) → OneOf not_basic (tag_of the_type f) → word < 0x80 → eqb size 1 ≡ word_canonical f word last size
+  pub ascii : (f : Form) → (f ≡ Basic → ⊥) → word < 0x80 → eqb size 1 ≡ word_canonical f word last size
   ascii Eight o h = rw (lt-ltb word 0x80 h)
   ascii Seven o h = rw (lt-ltb word 0x80 h)
-  ascii Basic o h = absurd (miss not_basic 2 tt o)
+  ascii Basic o h = absurd (o refl)
 
-  pub not_ascii : (f : Form) → OneOf not_basic (tag_of the_type f) → 0x80 ≤ word → true ≡ word_canonical f word last size
+  pub not_ascii : (f : Form) → (f ≡ Basic → ⊥) → 0x80 ≤ word → true ≡ word_canonical f word last size
   not_ascii Eight o h = rw (le-ltb word 0x80 h)
   not_ascii Seven o h = rw (le-ltb word 0x80 h)
-  not_ascii Basic o h = absurd (miss not_basic 2 tt o)
+  not_ascii Basic o h = absurd (o refl)

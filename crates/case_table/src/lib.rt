@@ -1,4 +1,5 @@
 // The header and the table of a TLX case (document 01, "The TLX case"): what they say, asked before any page is read.
+#![tactic(auto)]
 ghost use Rattle.std.specs.Prelude.{◌≡◌, ◌<◌, get_or};
 ghost use Rattle.case_table.specs.Layout.{mark};
 ghost use Rattle.case_table.specs.Check.{begins};
@@ -8,7 +9,7 @@ ghost use Rattle.case_table.specs.Promises.{NumberAtPromise, TotalOfPromise, Hea
 use sorts::FormFound;
 
 // What the header and the table of a case say.
-#[derive(Drop)]
+#[derive(Clone, Copy)]
 pub enum Header {
     // 13, 14, 11 or 15
     Refused(usize),

@@ -1,4 +1,5 @@
 // What changed between two texts of one form (document 02, No. 4).
+#![tactic(auto)]
 ghost use Rattle.std.specs.Prelude.{◌≡◌, ◌+◌, ◌≤◌, ◌<◌, length, take, drop};
 ghost use Rattle.lent_tables.specs.CodeTables.{code_table};
 ghost use Rattle.compare.specs.WhatChanged.{refused_by, differ_at};
@@ -15,7 +16,7 @@ use sorts::{Form, FormFound};
 
 // What comparing two texts says.
 #[repr(C)]
-#[derive(Drop)]
+#[derive(Clone, Copy)]
 pub struct Comparison {
     // compared: 0, and the element at which the meanings first differ, or the number of elements; refused: the four numbers of that text
     pub answer: Answer,
@@ -34,7 +35,7 @@ pub struct Comparison {
 }
 
 // How far two texts mean the same: so many elements, so many octets of each, so many elements spelled otherwise.
-#[derive(Drop)]
+#[derive(Clone, Copy)]
 pub struct Shared {
     pub elements: usize,
     pub first: usize,

@@ -7,12 +7,9 @@ use mathlib.Core.List.{List, [], ◌∷◌}
 use native.Mathlib.Nat.{add-zero}
 use native.Mathlib.Omega.{arith}
 use lib.ListN.{length, get_or, take, drop, drop_of_length-le, length-append, length-drop}
-use types.Run.{OneOf, miss}
-use denote.Enum.Declared.{tag_of}
 use Rattle.run.specs.Head.{Head, element, refused, none}
 use Rattle.run.proofs.FromPlace.{at_place}
 use Rattle.sorts.specs.declared.Form.{Form}
-use Rattle.sorts.specs.contracts.Sort.{the_type}
 use Rattle.sorts.specs.declared.Sort.{Sort}
 use Rattle.sorts.specs.declared.Sort.TheVariants.{Graphic, Mark, Underline, Shift, Control, SequenceStart, Refused}
 use Rattle.sorts.specs.declared.Found.{Found}
@@ -106,22 +103,16 @@ module _ (at : ℕ) where
         ≡ step_by f text at (as_element (sequence_head (get_or text at 0 ∷ drop (at + 1) text)))
     sequence_first f h = ap (λ (l : List ℕ). step_by f text at (as_element (sequence_head l))) (at_place text at h)
 
--- ---- by the sort of an octet, each by its tag: all but a spacing character and a mark; all but a refusal
+-- ---- by the sort of an octet: all but a refusal; all but a spacing character and a mark
 
-abbrev others : List ℕ
-others = 2 ∷ 3 ∷ 4 ∷ 5 ∷ 6 ∷ []
-
-abbrev beginners : List ℕ
-beginners = 0 ∷ 1 ∷ 2 ∷ 3 ∷ 4 ∷ 5 ∷ []
-
-pub not_refused : (k : ℕ) (s : Sort) → OneOf beginners (tag_of the_type s) → k ≡ high_or k s
+pub not_refused : (k : ℕ) (s : Sort) → ((n : ℕ) → s ≡ Refused n → ⊥) → k ≡ high_or k s
 not_refused k (Graphic c) o = refl
 not_refused k (Mark m) o = refl
 not_refused k Underline o = refl
 not_refused k Shift o = refl
 not_refused k Control o = refl
 not_refused k SequenceStart o = refl
-not_refused k (Refused n) o = absurd (miss beginners 6 tt o)
+not_refused k (Refused n) o = absurd (o n refl)
 
 module _ (f : Form) (text : List ℕ) where
   -- ---- a follower at i
@@ -182,15 +173,15 @@ module _ (f : Form) (text : List ℕ) where
         ∙ sym (ap (λ (x : Sort). step_by f text at (second_sort f u k x t)) e)
 
     -- neither a spacing character nor a mark stands behind SS2 or CC
-    pub second_other : (u : Bool) (k : ℕ) (t : List ℕ) (s : Sort) → OneOf others (tag_of the_type s)
+    pub second_other : (u : Bool) (k : ℕ) (t : List ℕ) (s : Sort) → ((c : ℕ) → s ≡ Graphic c → ⊥) → ((m : ℕ) → s ≡ Mark m → ⊥)
         → Stopped (high_or k s) at (at + 1) ≡ step_by f text at (second_sort f u k s t)
-    second_other u k t (Graphic c) o = absurd (miss others 0 tt o)
-    second_other u k t (Mark m) o = absurd (miss others 1 tt o)
-    second_other u k t Underline o = refl
-    second_other u k t Shift o = refl
-    second_other u k t Control o = refl
-    second_other u k t SequenceStart o = refl
-    second_other u k t (Refused n) o = refl
+    second_other u k t (Graphic c) o p = absurd (o c refl)
+    second_other u k t (Mark m) o p = absurd (p m refl)
+    second_other u k t Underline o p = refl
+    second_other u k t Shift o p = refl
+    second_other u k t Control o p = refl
+    second_other u k t SequenceStart o p = refl
+    second_other u k t (Refused n) o p = refl
 
     -- the follower of a mark, d octets behind the first
     pub follower_behind : (d m : ℕ) (u : Bool)

@@ -1,4 +1,5 @@
 // One element, read at a place of a text in a form.
+#![tactic(auto)]
 ghost use Rattle.std.specs.Prelude.{◌≡◌, ℕ, ◌+◌, ◌-◌, ◌*◌, ◌≤◌, ◌<◌, length, drop};
 ghost use Rattle.sorts.specs.declared.Sort.TheVariants.{Graphic};
 ghost use Rattle.sequence_reading.specs.SequenceHead.{sequence_head};
@@ -13,7 +14,7 @@ use sequence_reading::Reading;
 use sorts::{Form, Found, Sort};
 
 // What stands at a place.
-#[derive(Drop)]
+#[derive(Clone, Copy)]
 pub enum Step {
     // the element, the place after it, and whether it stood in its form's canonical spelling
     Element(Element, usize, bool),

@@ -1,4 +1,5 @@
 // One element, spelt in a form.
+#![tactic(auto)]
 ghost use Rattle.std.specs.Prelude.{◌≡◌, ◌+◌, ◌≤◌, length};
 ghost use Rattle.run.specs.Put.{Put, what_fits};
 ghost use Rattle.spelling.specs.CanonicalSpelling.{octets_of};

@@ -1,4 +1,5 @@
 // An element, and its words both ways.
+#![tactic(auto)]
 ghost use Rattle.std.specs.Prelude.{◌≡◌, ◌∷◌, [], ◌+◌, ◌≤◌, ◌<◌, length, get_or, take};
 ghost use Rattle.run.specs.Put.{Put};
 ghost use Rattle.sequence_reading.specs.EightValues.{values_of, list_of};
@@ -16,7 +17,7 @@ pub const CONTROLS_FROM: u32 = 0x2000000;
 pub const SEQUENCES_FROM: u32 = 0x4000000;
 
 // An element, known by its words.
-#[derive(Drop)]
+#[derive(Clone, Copy)]
 pub enum Element {
     // a graphic or a control
     One(u32),
@@ -29,7 +30,7 @@ pub enum Element {
 }
 
 // What the words at a place are.
-#[derive(Drop)]
+#[derive(Clone, Copy)]
 pub enum Meant {
     // an element, and the place after its words
     Element(Element, usize),

@@ -1,6 +1,7 @@
 // The listing of a TLX case, as document 01 shows it: a line for the case and a line a page, or the one line of a refusal.
 //
 // What is printed comes from the proved functions of `tlx`; the printing itself is tested.
+#![tactic(auto)]
 ghost use Rattle.std.specs.Prelude.{◌≡◌, length};
 
 use tlx::{CaseAnswer, Header, Page};

@@ -1,5 +1,6 @@
 // Lists each stored case, as the program tlx_list lists the one on standard input.
 // The cases and what is to be printed are made from a model of the documents, never from our code.
+#![tactic(auto)]
 
 fn list_file(name: &[u8]) {
     io::write_all(1, name);

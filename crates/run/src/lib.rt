@@ -1,8 +1,10 @@
 // The four numbers that every answer carries (document 01, "The numbers an answer carries"), and a reading's fifth; writing an octet.
+#![tactic(auto)]
+
 ghost use Rattle.run.specs.Promises.{BareAnswerPromise, ShortRoomPromise, ReadingOfPromise, PutPromise};
 
 #[repr(C)]
-#[derive(Drop)]
+#[derive(Clone, Copy)]
 pub struct Answer {
     // 0: accepted; else why it is refused
     pub number: usize,
@@ -16,7 +18,7 @@ pub struct Answer {
 
 // The four numbers of a reading or a conversion, and the fifth (document 02, No. 5).
 #[repr(C)]
-#[derive(Drop)]
+#[derive(Clone, Copy)]
 pub struct ReadAnswer {
     pub answer: Answer,
     // accepted: how many elements did not stand in their canonical spelling; refused: 0

@@ -1,11 +1,12 @@
 // One control sequence of form 3, read at a place.
+#![tactic(auto)]
 ghost use Rattle.std.specs.Prelude.{◌≡◌, ◌<◌, set};
 ghost use Rattle.sequence_reading.specs.SequenceHead.{Fair, digit_step, value_step, middle_step, step_of};
 ghost use Rattle.sequence_reading.specs.EightValues.{list_of};
 ghost use Rattle.sequence_reading.specs.Promises.{KindOfPromise, ValueAtPromise, ReadSequencePromise};
 
 // What an octet is inside a sequence, and what it means there.
-#[derive(Drop)]
+#[derive(Clone, Copy)]
 pub enum Kind {
     Digit(u8),
     Separator,
@@ -16,7 +17,7 @@ pub enum Kind {
 
 // How far a sequence is read: the value that is open, how many are closed before it, the intermediate (0 if none), and the octets taken,
 // 9B counted.
-#[derive(Drop)]
+#[derive(Clone, Copy)]
 pub struct Scan {
     pub current: u32,
     pub closed: usize,
@@ -25,7 +26,7 @@ pub struct Scan {
 }
 
 // What one octet does: it is taken; it closes a value; it is the final; it is refused with a number.
-#[derive(Drop)]
+#[derive(Clone, Copy)]
 pub enum Next {
     More(Scan),
     Value(Scan),
@@ -34,7 +35,7 @@ pub enum Next {
 }
 
 // The values of a sequence: as many as it has, then zeros.
-#[derive(Drop)]
+#[derive(Clone, Copy)]
 pub struct Values {
     pub v0: u32,
     pub v1: u32,
@@ -48,7 +49,7 @@ pub struct Values {
 
 // What stands at a place: a whole sequence with the place after it; a refusal (4, 6, 7, 8) with its deciding octet; nothing, at or past
 // the end.
-#[derive(Drop)]
+#[derive(Clone, Copy)]
 pub enum Reading {
     Whole {
         middle: u8,

@@ -1,4 +1,5 @@
 // One control sequence of form 3, spelt.
+#![tactic(auto)]
 ghost use Rattle.std.specs.Prelude.{◌≡◌, ◌+◌, ◌%◌, ◌≤◌, length, drop};
 ghost use Rattle.run.specs.Put.{Put};
 ghost use Rattle.sequence_spelling.specs.SequenceOctets.{digits_of, spell_rest, spell_middle, spell_sequence};
@@ -135,8 +136,8 @@ fn put_middle(out: &mut [u8], at: usize, middle: u8) -> usize
 
 // The whole spelling, where there is a value and room for it.
 fn put_whole(middle: u8, last: u8, values: &[u32], out: &mut [u8], at: usize) -> usize
-    requires in_bounds { 1 ≤ length values.now }
-    requires values_in_bounds { at + length (spell_sequence (record { middle = middle; last = last; values = values.now })) ≤ length out.old }
+    requires some_value { 1 ≤ length values.now }
+    requires room { at + length (spell_sequence (record { middle = middle; last = last; values = values.now })) ≤ length out.old }
     ensures { Put out.old at
         (spell_sequence (record { middle = middle; last = last; values = values.now })) out.new result }
 {

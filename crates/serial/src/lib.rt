@@ -1,4 +1,5 @@
 // A page off the serial lead, in pieces: the carry between them, and the reader that takes them (document 02, No. 1).
+#![tactic(auto)]
 ghost use Rattle.std.specs.Prelude.{◌≡◌, ◌+◌, ◌≤◌, length, true};
 ghost use Rattle.text_reading.specs.ReadingNumbers.{limit};
 ghost use Rattle.serial.specs.Feeding.{could_go, could_end, could_stop, kept_by, repeated_by, stopped_by, stops_page, fed_in, words_in};
@@ -9,7 +10,7 @@ use sorts::{Form, FormFound};
 
 // What goes from one call to the next. Every value of it gets an answer, also one that nobody made by `fresh`.
 #[repr(C)]
-#[derive(Drop)]
+#[derive(Clone, Copy)]
 pub struct Carry {
     // since fresh: 0, elements, octets taken, words; of a page that ended or was refused, the answer that is repeated
     pub answer: Answer,
@@ -27,7 +28,7 @@ pub struct Carry {
 
 // A call's answer: the carry for the next one, the four numbers, the fifth, and how many words were handed out.
 #[repr(C)]
-#[derive(Drop)]
+#[derive(Clone, Copy)]
 pub struct Fed {
     pub carry: Carry,
     pub answer: Answer,

@@ -1,4 +1,5 @@
 // The forms of document 01, and what an octet begins in each.
+#![tactic(auto)]
 mod pages;
 mod supplementary;
 
@@ -7,7 +8,7 @@ ghost use Rattle.sorts.specs.Promises.{FormOfPromise, WidePromise, SortInPromise
 ghost use Rattle.sorts.specs.Sorts.{sort_in, shifted_in, entry, upper_at, spacing_of, spacing_page};
 
 // The forms of text: T51String in eight bits and in seven, basic T.61.
-#[derive(Drop)]
+#[derive(Clone, Copy)]
 pub enum Form {
     Eight,
     Seven,
@@ -23,14 +24,14 @@ pub const CC: u8 = 0xCC;
 pub const CSI: u8 = 0x9B;
 
 // The form of a number.
-#[derive(Drop)]
+#[derive(Clone, Copy)]
 pub enum FormFound {
     Is(Form),
     Nothing,
 }
 
 // What an octet begins.
-#[derive(Drop)]
+#[derive(Clone, Copy)]
 pub enum Sort {
     // a spacing character
     Graphic(u32),
@@ -46,14 +47,14 @@ pub enum Sort {
 }
 
 // The character of an octet, or of a mark and its follower.
-#[derive(Drop)]
+#[derive(Clone, Copy)]
 pub enum Found {
     Char(u32),
     Nothing,
 }
 
 // The octet of a character.
-#[derive(Drop)]
+#[derive(Clone, Copy)]
 pub enum Octet {
     Is(u8),
     Absent,

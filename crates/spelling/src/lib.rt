@@ -1,4 +1,5 @@
 // The canonical spelling of a character in each form of document 01.
+#![tactic(auto)]
 ghost use Rattle.std.specs.Prelude.{◌≡◌};
 ghost use Rattle.spelling.specs.SpellingGiven.{itself, primary_octet, spell_spacing, spell_pair};
 ghost use Rattle.spelling.specs.Promises.{SpellInPromise};
@@ -7,7 +8,7 @@ use sorts::{Form, Octet};
 use squares::Pairing;
 
 // The canonical spelling of a character.
-#[derive(Drop)]
+#[derive(Clone, Copy)]
 pub enum Spelling {
     One(u8),
     // an octet after SS2

@@ -1,4 +1,5 @@
 // The squares of the documents: a mark and its follower, and the character of both.
+#![tactic(auto)]
 mod pages;
 mod table;
 
@@ -9,7 +10,7 @@ ghost use Rattle.squares.specs.Promises.{ColumnOfPromise, SquareTablePromise, Sq
 use sorts::Found;
 
 // The mark and the follower of a character.
-#[derive(Drop)]
+#[derive(Clone, Copy)]
 pub enum Pairing {
     Of(u8, u8),
     Nowhere,

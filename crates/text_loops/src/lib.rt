@@ -1,4 +1,5 @@
 // A text up to its end or its first fault: the loops that go through it.
+#![tactic(auto)]
 ghost use Rattle.std.specs.Prelude.{◌≡◌, ◌+◌, ◌≤◌, ◌<◌, length, take, drop};
 ghost use Rattle.run.specs.Answers.{written_of, RoomFor};
 ghost use Rattle.run.specs.Put.{Put};
@@ -14,7 +15,7 @@ use run::Answer;
 use sorts::{Form, Sort};
 
 // What was read of a text, up to its end or its first fault.
-#[derive(Drop)]
+#[derive(Clone, Copy)]
 pub struct Measured {
     // as with room enough; its place is how far it came
     pub answer: Answer,

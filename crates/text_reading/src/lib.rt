@@ -1,4 +1,5 @@
 // A whole text: measured, and read; one element of it.
+#![tactic(auto)]
 ghost use Rattle.text_reading.specs.Promises.{MeasurePromise, ReadPromise, ReadElementPromise, ReadOnePromise};
 
 use element_reading::Step;

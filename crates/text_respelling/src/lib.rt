@@ -1,4 +1,5 @@
 // A text respelt in a form: by runs of what lent tables read and spell, and between them element by element.
+#![tactic(auto)]
 ghost use Rattle.std.specs.Prelude.{◌≡◌, ◌+◌, ◌≤◌, ◌<◌, length, drop};
 ghost use Rattle.run.specs.Head.{outcome};
 ghost use Rattle.run.specs.Answers.{carrying, written_of, roomy_answer, RoomFor, same};
@@ -19,14 +20,14 @@ use sorts::Form;
 use text_writing::Gone;
 
 // The character at a place, as the lent tables read it, and how many octets it has. 0 is none.
-#[derive(Drop)]
+#[derive(Clone, Copy)]
 pub struct Character {
     pub code: u32,
     pub size: usize,
 }
 
 // How far a run of a text goes: what `Gone` says, and the elements that it passes.
-#[derive(Drop)]
+#[derive(Clone, Copy)]
 pub struct Counts {
     pub entries: usize,
     pub elements: usize,

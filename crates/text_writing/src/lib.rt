@@ -1,4 +1,5 @@
 // Words written as a text: by runs of what the form's lent table spells, and between them element by element.
+#![tactic(auto)]
 ghost use Rattle.std.specs.Prelude.{◌≡◌, ◌+◌, ◌≤◌, length};
 ghost use Rattle.run.specs.Head.{outcome};
 ghost use Rattle.run.specs.Answers.{written_of, roomy_answer, RoomFor, same};
@@ -14,7 +15,7 @@ use run::Answer;
 use sorts::Form;
 
 // How far a run goes that lent tables spell: the entries that it passes, words or octets, and the octets that they are spelt with.
-#[derive(Drop)]
+#[derive(Clone, Copy)]
 pub struct Gone {
     pub entries: usize,
     pub octets: usize,

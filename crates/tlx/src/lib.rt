@@ -1,4 +1,5 @@
 // The TLX case: its pages, read one by one (document 01, "The TLX case"). What `case_table` and `case_writing` have for a user is handed on.
+#![tactic(auto)]
 ghost use Rattle.std.specs.Prelude.{◌≡◌, length};
 ghost use Rattle.element_words.specs.Words.{words_of};
 ghost use Rattle.run.specs.Answers.{RoomFor};
@@ -12,7 +13,7 @@ use run::{Answer, ReadAnswer};
 
 // The four numbers of an answer, the fifth, and the page beside them (0 in any answer that is not a page's refusal).
 #[repr(C)]
-#[derive(Drop)]
+#[derive(Clone, Copy)]
 pub struct CaseAnswer {
     pub answer: Answer,
     // accepted: how many elements, of all pages, did not stand in their canonical spelling; refused: 0
@@ -21,7 +22,7 @@ pub struct CaseAnswer {
 }
 
 // One page of a case.
-#[derive(Drop)]
+#[derive(Clone, Copy)]
 pub enum Page {
     // the page's answer, or the case's own refusal
     Is(ReadAnswer),

@@ -8,6 +8,7 @@
 // `;` behind. Its `held` goes up to the last entry that is not 0. The first number of an answer that is expected is in decimal, everything
 // else in hex.
 // In an outcome of ours `?` stands where an entry that should be left alone is not, within the room or past it.
+#![tactic(auto)]
 mod calls;
 
 use calls::{answer_calls, carry_in, put_fed};

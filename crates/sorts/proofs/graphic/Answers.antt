@@ -1,0 +1,9 @@
+-- `entry`, by its test.
+use borrow.Author.Tests.{eq-eqb, ne_eqb}
+use Rattle.sorts.proofs.graphic.Goals as goal
+
+pub returns-then-x-eq0 : goal.returns-then-x-eq0
+returns-then-x-eq0 c = simp (eq-eqb _ 0 c.if-x-eq0.true)
+
+pub returns : goal.returns
+returns c = simp (ne_eqb _ 0 c.if-x-eq0.false)

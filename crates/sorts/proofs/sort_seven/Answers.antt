@@ -1,0 +1,45 @@
+-- `sort_in` of form 2, arm by arm: each is a test over the arm's octets (`at_keys`, `within`, `without`).
+use native.Mathlib.Omega.{arith}
+use mathlib.Core.Path.{refl}
+use mathlib.Core.List.{List, [], ◌∷◌}
+use Prim.Native.Nat.{ℕ}
+use Rattle.run.proofs.Range.{at_keys, within, without}
+use Rattle.sorts.specs.declared.Form.TheVariants.{Seven}
+use Rattle.sorts.specs.declared.Sort.TheVariants.{Graphic, Shift, Control, Refused}
+use Rattle.sorts.specs.Sorts.{sort_in}
+use Rattle.sorts.proofs.sort_seven.Goals as goal
+
+-- the single numbers of the match, from its last arm that has some
+abbrev singles : List (List ℕ)
+singles = (0x19 ∷ []) ∷ (0x1B ∷ 0x1D ∷ []) ∷ (0x0A ∷ 0x0D ∷ []) ∷ []
+
+pub returns-in-10 : goal.returns-in-10
+returns-in-10 c = at_keys (λ o. Control) (sort_in Seven) (0x0A ∷ 0x0D ∷ []) (unfold sort_in in refl) _ c.in-10.is
+
+pub returns-in-25 : goal.returns-in-25
+returns-in-25 c = at_keys (λ o. Shift) (sort_in Seven) (0x19 ∷ []) (unfold sort_in in refl) _ c.in-25.is
+
+pub returns-in-32-to-126 : goal.returns-in-32-to-126
+returns-in-32-to-126 c = within (λ o. Graphic o) (sort_in Seven) 0x20 0x7F (unfold sort_in in refl) _ (omega arith) (omega arith)
+
+pub returns-in-128-to-255 : goal.returns-in-128-to-255
+returns-in-128-to-255 c = within (λ o. Refused 5) (sort_in Seven) 0x80 0x100 (unfold sort_in in refl) _ (omega arith) (omega arith)
+
+pub returns-in_default : goal.returns-in_default
+returns-in_default c = without (λ o. Refused 1) (sort_in Seven) singles 0x00 0x0D (unfold sort_in in refl) _ c.in_default.in_default-own.rest (omega arith) (omega arith)
+
+pub returns-in_default-2 : goal.returns-in_default-2
+returns-in_default-2 c =
+    without (λ o. Refused 1) (sort_in Seven) singles 0x10 0x20 (unfold sort_in in refl) _ c.in_default.in_default-own.rest
+    (omega arith) (omega arith)
+
+pub returns-in_default-3 : goal.returns-in_default-3
+returns-in_default-3 c = within (λ o. Refused 1) (sort_in Seven) 0x7F 0x80 (unfold sort_in in refl) _ (omega arith) (omega arith)
+
+pub returns-in-14-to-15 : goal.returns-in-14-to-15
+returns-in-14-to-15 c = at_keys (λ o. Refused 2) (sort_in Seven) (0x1B ∷ 0x1D ∷ []) (unfold sort_in in refl) _ c.in-14-to-15.in-14-to-15-own.keys2
+
+pub returns-in-14-to-15-2 : goal.returns-in-14-to-15-2
+returns-in-14-to-15-2 c =
+    without (λ o. Refused 2) (sort_in Seven) singles 0x0D 0x10 (unfold sort_in in refl) _ c.in-14-to-15.in_default-own.rest (omega arith)
+    (omega arith)
