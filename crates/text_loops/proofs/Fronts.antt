@@ -57,7 +57,7 @@ asked_all true n ws (refusal r e p d) z q = absurd (omega (arith, eqb-true r 0 q
 asked_all false n ws (refusal r e p d) z q = refl
 
 -- where no whole text is wanted, all
-asked_any : (whole : Bool) (ws : List ℕ) (x : Outcome Element) → not whole ≡ true → asked_for whole x ws ≡ ws
+asked_any : (whole : Bool) (ws : List ℕ) (x : Outcome Element) → whole ≡ false → asked_for whole x ws ≡ ws
 asked_any whole ws (accepted es) q = refl
 asked_any true ws (refusal r e p d) q = let z : ◌≡◌ {A = ℕ} 0 1 = cc in absurd (omega arith)
 asked_any false ws (refusal r e p d) q = refl
@@ -117,7 +117,7 @@ module _ (f : Form) (text words : List ℕ) (o : ℕ) (whole : Bool) (m : Measur
       (is, p.holds ∙ ap (sets words o) (sym fits))
 
   -- where each octet has room for a word, and no whole text is wanted, what is read straight into the buffer is all that is wanted
-  pub read_straight : not whole ≡ true → o + length text ≤ length words
+  pub read_straight : whole ≡ false → o + length text ≤ length words
       → (l' : List ℕ) → Put (behind words o) 0 (words_before f text) l' m.words
       → ReadFrontPromise f text words o whole m (put_mid o (length words - o) words l')
   read_straight any h l' p =

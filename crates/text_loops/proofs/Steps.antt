@@ -8,8 +8,6 @@ use mathlib.Core.List.{List, [], ◌∷◌}
 use native.Mathlib.Omega.{arith}
 use lib.ListN.{length, take, drop, get_or, length-drop}
 use borrow.Author.Tests.{le-leb}
-use types.Run.{OneOf}
-use denote.Enum.Declared.{tag_of}
 use Rattle.run.specs.Loops.{Filled}
 use Rattle.run.specs.Head.{Head, element, refused, none}
 use Rattle.run.specs.Tagged.{tag_head}
@@ -23,7 +21,6 @@ use Rattle.sorts.specs.declared.Form.{Form}
 use Rattle.sorts.specs.declared.Sort.{Sort}
 use Rattle.sorts.specs.declared.Sort.TheVariants.{Graphic}
 use Rattle.sorts.specs.Sorts.{sort_in}
-use Rattle.element_reading.specs.contracts.Step.{the_type}
 use Rattle.element_words.specs.declared.Element.{Element}
 use Rattle.element_words.specs.declared.Element.TheVariants.{One}
 use Rattle.element_reading.specs.declared.Step.{Step}
@@ -77,12 +74,11 @@ graphic_told f text at c b h q z =
 pub count_is_place : (r d : ℕ) → r ≤ 8 → d ≡ count_of r d
 count_is_place r d h = sym (rw (le-leb r 8 h))
 
-module _ (f : Form) (text : List ℕ) (at : ℕ) where
-  not_read : (x : Step) → OneOf (1 ∷ 2 ∷ []) (tag_of the_type x) → (e : Element) (k : ℕ) (b : Bool) → x ≡ Read e k b → ⊥
-  not_read (Read e₀ k₀ b₀) o e k b q = ⊎_elim (λ z. omega arith) (λ z. omega arith) o
-  not_read (Stopped r p d) o e k b q = let w : ◌≡◌ {A = ℕ} 0 1 = cc in omega arith
-  not_read End o e k b q = let w : ◌≡◌ {A = ℕ} 0 1 = cc in omega arith
+-- a step that read no element
+abbrev pub NotRead : Step → Type 0
+NotRead x = (e : Element) (k : ℕ) (b : Bool) → x ≡ Read e k b → ⊥
 
+module _ (f : Form) (text : List ℕ) (at : ℕ) where
   -- the answer, by what stands at the head
   abbrev step : Head Element → Step
   step h = step_of at (tag_head (is_canonical f) (drop at text) h)
@@ -99,10 +95,10 @@ module _ (f : Form) (text : List ℕ) (at : ℕ) where
       }
   refuses_by none q u l = absurd (omega (arith, length-drop at text, ap length ((reads f).goes (drop at text) q)))
 
-  pub step_refused : (x : Step) → x ≡ step_at f text at → OneOf (1 ∷ 2 ∷ []) (tag_of the_type x) → at < length text → RefusedStep f text at x
+  pub step_refused : (x : Step) → x ≡ step_at f text at → NotRead x → at < length text → RefusedStep f text at x
   unfolding step_at
   step_refused x q o l =
-      subst (RefusedStep f text at) (sym q) (refuses_by (head_in f (drop at text)) refl (λ e k b z. not_read x o e k b (q ∙ z)) l)
+      subst (RefusedStep f text at) (sym q) (refuses_by (head_in f (drop at text)) refl (λ e k b z. o e k b (q ∙ z)) l)
 
 -- ---- the ways out of the loops over a text
 
@@ -115,7 +111,7 @@ measured_as_lem {b = b} {n} {k = k} p q r = ap (λ (x : Answer). measured_as x n
 
 module _ (f : Form) (text : List ℕ) where
   pub read_stop : {at n count k : ℕ} {a : Answer} (x : Step) → CountedBoth f text at n count k → x ≡ step_at f text at
-      → OneOf (1 ∷ 2 ∷ []) (tag_of the_type x) → at < length text → a ≡ step_answer_after n x → measured_as a count k ≡ measured f text
+      → NotRead x → at < length text → a ≡ step_answer_after n x → measured_as a count k ≡ measured f text
   read_stop {at} {n} x was q o l e =
       let h = step_refused f text at x q o l in
       measured_as_lem (e ∙ h.answers n ∙ count_stop (reads f) (few_words f) text was.counted h.here refl)
@@ -138,7 +134,7 @@ module _ (f : Form) (text : List ℕ) where
         let behind = count_turn (reads f) (few_words f) text was.taken.counted x.here x.onward refl in
         omega (arith, counted_fits f text behind, put_length was.taken.put)
 
-    pub into_stop : {a : Answer} (x : Step) → x ≡ step_at f text at → OneOf (1 ∷ 2 ∷ []) (tag_of the_type x) → at < length text
+    pub into_stop : {a : Answer} (x : Step) → x ≡ step_at f text at → NotRead x → at < length text
         → a ≡ step_answer_after n x → ReadInto f text into (measured_as a o k) l
     into_stop x q i h e =
         let r = step_refused f text at x q i h in
@@ -149,6 +145,6 @@ module _ (f : Form) (text : List ℕ) where
 
   -- an accepted text has an element at each place before its end
   pub read_never : (words : List ℕ) (room : RoomFor words_of (length words) (read_in f text)) {at o : ℕ} {l : List ℕ} (x : Step)
-      → Filled (head_in f) words_of 34 text words at o l → x ≡ step_at f text at → OneOf (1 ∷ 2 ∷ []) (tag_of the_type x) → at < length text → ⊥
+      → Filled (head_in f) words_of 34 text words at o l → x ≡ step_at f text at → NotRead x → at < length text → ⊥
   read_never words room {at} x was q i h =
       fill_never (reads f) (few_words f) text words room was (step_refused f text at x q i h).here

@@ -98,8 +98,8 @@ fn put_within(
     o: usize,
     most: usize,
 ) -> usize
-    requires most_in_bounds { at + most ≤ length text.now }
-    requires text_in_bounds { o + length (spacing_words codes.now most (drop at text.now)) ≤ length words.old }
+    requires inside { at + most ≤ length text.now }
+    requires room { o + length (spacing_words codes.now most (drop at text.now)) ≤ length words.old }
     ensures { (result ≡ length (spacing_words codes.now most (drop at text.now))) × Put words.old o (spacing_words codes.now most (drop at text.now)) words.new (o + result) }
 {
     let mut i = 0;
@@ -116,8 +116,8 @@ fn put_within(
 
 // Writes what `spacing_run` counts.
 fn put_run(codes: &[u16; 256], text: &[u8], at: usize, words: &mut [u32], o: usize) -> usize
-    requires at_in_bounds { at ≤ length text.now }
-    requires text_in_bounds { o + length (spacing_words codes.now 16 (drop at text.now)) ≤ length words.old }
+    requires inside { at ≤ length text.now }
+    requires room { o + length (spacing_words codes.now 16 (drop at text.now)) ≤ length words.old }
     ensures { (result ≡ length (spacing_words codes.now 16 (drop at text.now))) × Put words.old o (spacing_words codes.now 16 (drop at text.now)) words.new (o + result) }
 {
     let left = text.len() - at;
@@ -204,8 +204,8 @@ fn fill_by_tables(
     text: &[u8],
     words: &mut [u32],
 )
-    requires codes_value { (codes.now ≡ code_table form) × (squares.now ≡ square_table) }
-    requires room_for { RoomFor words_of (length words.old) (read_in form text.now) }
+    requires lent { (codes.now ≡ code_table form) × (squares.now ≡ square_table) }
+    requires room { RoomFor words_of (length words.old) (read_in form text.now) }
     ensures { words.new ≡ written_of words_of words.old (read_in form text.now) }
 {
     let mut at = 0;
