@@ -1,5 +1,6 @@
 // Whether the octets that were read of an element are its canonical spelling (document 01, "Canonical spelling"; document 02, No. 5).
 #![tactic(auto)]
+
 ghost use Rattle.canonical_tests.specs.Promises.{WordIsCanonicalPromise, SequenceIsCanonicalPromise, NotCanonicalPromise};
 
 use sorts::Form;

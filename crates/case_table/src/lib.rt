@@ -1,5 +1,6 @@
 // The header and the table of a TLX case (document 01, "The TLX case"): what they say, asked before any page is read.
 #![tactic(auto)]
+
 ghost use Rattle.std.specs.Prelude.{◌≡◌, ◌<◌, get_or};
 ghost use Rattle.case_table.specs.Layout.{mark};
 ghost use Rattle.case_table.specs.Check.{begins};

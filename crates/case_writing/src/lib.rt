@@ -1,5 +1,6 @@
 // A TLX case written from its parts (document 01, "The TLX case"); the pages are not read.
 #![tactic(auto)]
+
 ghost use Rattle.std.specs.Prelude.{◌≡◌, true, ◌+◌, ◌*◌, ◌≤◌, ◌<◌, length};
 ghost use Rattle.run.specs.Answers.{given};
 ghost use Rattle.run.specs.Put.{Put};

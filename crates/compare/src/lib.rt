@@ -1,5 +1,6 @@
 // What changed between two texts of one form (document 02, No. 4).
 #![tactic(auto)]
+
 ghost use Rattle.std.specs.Prelude.{◌≡◌, ◌+◌, ◌≤◌, ◌<◌, length, take, drop};
 ghost use Rattle.lent_tables.specs.CodeTables.{code_table};
 ghost use Rattle.compare.specs.WhatChanged.{refused_by, differ_at};

@@ -1,5 +1,6 @@
 // One element, read at a place of a text in a form.
 #![tactic(auto)]
+
 ghost use Rattle.std.specs.Prelude.{◌≡◌, ℕ, ◌+◌, ◌-◌, ◌*◌, ◌≤◌, ◌<◌, length, drop};
 ghost use Rattle.sorts.specs.declared.Sort.TheVariants.{Graphic};
 ghost use Rattle.sequence_reading.specs.SequenceHead.{sequence_head};

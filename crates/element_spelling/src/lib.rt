@@ -1,5 +1,6 @@
 // One element, spelt in a form.
 #![tactic(auto)]
+
 ghost use Rattle.std.specs.Prelude.{◌≡◌, ◌+◌, ◌≤◌, length};
 ghost use Rattle.run.specs.Put.{Put, what_fits};
 ghost use Rattle.spelling.specs.CanonicalSpelling.{octets_of};

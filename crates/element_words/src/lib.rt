@@ -1,5 +1,6 @@
 // An element, and its words both ways.
 #![tactic(auto)]
+
 ghost use Rattle.std.specs.Prelude.{◌≡◌, ◌∷◌, [], ◌+◌, ◌≤◌, ◌<◌, length, get_or, take};
 ghost use Rattle.run.specs.Put.{Put};
 ghost use Rattle.sequence_reading.specs.EightValues.{values_of, list_of};

@@ -1,5 +1,6 @@
 // The tables that a reader of whole texts is lent: what each octet of a form is by itself, and the squares.
 #![tactic(auto)]
+
 mod codes;
 
 ghost use Rattle.lent_tables.specs.Promises.{CodeTablePromise, CodeInPromise, PairedInPromise};

@@ -2,6 +2,7 @@
 //
 // No public function has a `requires`. They are proved safe, and to end; what they read and print is tested by the programs.
 #![tactic(auto)]
+
 pub mod answer;
 pub mod fields;
 pub mod files;

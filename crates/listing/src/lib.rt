@@ -2,6 +2,7 @@
 //
 // What is printed comes from the proved functions of `tlx`; the printing itself is tested.
 #![tactic(auto)]
+
 ghost use Rattle.std.specs.Prelude.{◌≡◌, length};
 
 use tlx::{CaseAnswer, Header, Page};

@@ -1,5 +1,6 @@
 // The library for C: each function under its plain name, as include/oakentwirl.h declares it, over the proved function that does the work.
 #![tactic(auto)]
+
 ghost use Rattle.std.specs.Prelude.{not, eqb};
 ghost use Rattle.text_reading.specs.Promises.{ReadPromise, ReadOnePromise};
 ghost use Rattle.text.specs.Promises.{WritePromise, ConvertPromise};

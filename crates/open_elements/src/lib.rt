@@ -1,5 +1,6 @@
 // An element left open, and the piece that goes on with it.
 #![tactic(auto)]
+
 ghost use Rattle.std.specs.Prelude.{◌≡◌, ◌++◌, ◌+◌, ◌<◌, length};
 ghost use Rattle.run.specs.Head.{refused};
 ghost use Rattle.element_reading.specs.ElementHead.{head_in};

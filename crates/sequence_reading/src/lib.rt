@@ -1,5 +1,6 @@
 // One control sequence of form 3, read at a place.
 #![tactic(auto)]
+
 ghost use Rattle.std.specs.Prelude.{◌≡◌, ◌<◌, set};
 ghost use Rattle.sequence_reading.specs.SequenceHead.{Fair, digit_step, value_step, middle_step, step_of};
 ghost use Rattle.sequence_reading.specs.EightValues.{list_of};

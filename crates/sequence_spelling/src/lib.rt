@@ -1,5 +1,6 @@
 // One control sequence of form 3, spelt.
 #![tactic(auto)]
+
 ghost use Rattle.std.specs.Prelude.{◌≡◌, ◌+◌, ◌%◌, ◌≤◌, length, drop};
 ghost use Rattle.run.specs.Put.{Put};
 ghost use Rattle.sequence_spelling.specs.SequenceOctets.{digits_of, spell_rest, spell_middle, spell_sequence};

@@ -1,5 +1,6 @@
 // A page off the serial lead, in pieces: the carry between them, and the reader that takes them (document 02, No. 1).
 #![tactic(auto)]
+
 ghost use Rattle.std.specs.Prelude.{◌≡◌, ◌+◌, ◌≤◌, length, true};
 ghost use Rattle.text_reading.specs.ReadingNumbers.{limit};
 ghost use Rattle.serial.specs.Feeding.{could_go, could_end, could_stop, kept_by, repeated_by, stopped_by, stops_page, fed_in, words_in};

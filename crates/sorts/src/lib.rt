@@ -1,5 +1,6 @@
 // The forms of document 01, and what an octet begins in each.
 #![tactic(auto)]
+
 mod pages;
 mod supplementary;
 

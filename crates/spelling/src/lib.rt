@@ -1,5 +1,6 @@
 // The canonical spelling of a character in each form of document 01.
 #![tactic(auto)]
+
 ghost use Rattle.std.specs.Prelude.{◌≡◌};
 ghost use Rattle.spelling.specs.SpellingGiven.{itself, primary_octet, spell_spacing, spell_pair};
 ghost use Rattle.spelling.specs.Promises.{SpellInPromise};

@@ -1,5 +1,6 @@
 // The tables that a writer of whole texts is lent: the canonical spelling of each character in a form, as one number.
 #![tactic(auto)]
+
 mod basic;
 mod eight;
 mod seven;

@@ -1,5 +1,6 @@
 // The squares of the documents: a mark and its follower, and the character of both.
 #![tactic(auto)]
+
 mod pages;
 mod table;
 

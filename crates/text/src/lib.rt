@@ -1,5 +1,6 @@
 // A whole text: written from words, and converted to a form; and what `text_reading` reads.
 #![tactic(auto)]
+
 ghost use Rattle.text.specs.Promises.{WritePromise, ConvertPromise};
 
 use run::{Answer, ReadAnswer};

@@ -1,5 +1,6 @@
 // A text up to its end or its first fault: the loops that go through it.
 #![tactic(auto)]
+
 ghost use Rattle.std.specs.Prelude.{◌≡◌, ◌+◌, ◌≤◌, ◌<◌, length, take, drop};
 ghost use Rattle.run.specs.Answers.{written_of, RoomFor};
 ghost use Rattle.run.specs.Put.{Put};

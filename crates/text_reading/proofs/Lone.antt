@@ -9,8 +9,6 @@ use native.Mathlib.Omega.{arith}
 use lib.ListN.{length, take, drop}
 use lib.Dec.{leb}
 use borrow.Author.Tests.{leb-true, leb-false, le-leb, lt-leb}
-use types.Run.{OneOf}
-use denote.Enum.Declared.{tag_of}
 use Rattle.run.specs.Choice.{pick}
 use Rattle.run.specs.declared.ReadAnswer.{ReadAnswer}
 use Rattle.run.specs.declared.Answer.{Answer}
@@ -24,7 +22,7 @@ use Rattle.sorts.specs.Forms.{form_of, in_form}
 use Rattle.sorts.proofs.FormNumbers.{none_exactly}
 use Rattle.element_reading.specs.declared.Step.{Step}
 use Rattle.element_reading.specs.declared.Step.TheVariants.{Element as Read, Refused, End}
-use Rattle.element_reading.specs.contracts.Step.{the_type}
+use Rattle.text_loops.proofs.Steps.{NotRead}
 use Rattle.element_words.specs.declared.Element.{Element}
 use Rattle.element_words.specs.Words.{words_of}
 use Rattle.element_words.specs.Promises.{PutWordsPromise}
@@ -131,10 +129,10 @@ module _ (form : ℕ) (text : List ℕ) (at : ℕ) where
     -- ---- the ways out of the code
 
     -- what is no element is answered as it is, and has no words
-    other_by : (s : Step) → OneOf (1 ∷ 2 ∷ []) (tag_of the_type s) → {r : ReadAnswer} {a : Answer} → a ≡ step_answer_after 0 s
+    other_by : (s : Step) → NotRead s → {r : ReadAnswer} {a : Answer} → a ≡ step_answer_after 0 s
         → r ≡ carrying a 0 → (r ≡ fits_or s (length words) (step_reading s) (carrying (short_room (length (step_words s))) 0))
         × (words ≡ fits_or s (length words) (over words (step_words s)) words)
-    other_by (Read e next b) o q z = absurd (⊎_elim (λ y. omega arith) (λ y. omega arith) o)
+    other_by (Read e next b) o q z = absurd (o e next b refl)
     other_by (Refused m p d) o {a = a} q z =
         let t = le-leb 0 (length words) (omega arith) in
         (z ∙ carrying_zero a ∙ ap (λ (x : Answer). reading x 0) q ∙ sym (rw t), sym (rw t))
@@ -142,7 +140,7 @@ module _ (form : ℕ) (text : List ℕ) (at : ℕ) where
         let t = le-leb 0 (length words) (omega arith) in
         (z ∙ carrying_zero a ∙ ap (λ (x : Answer). reading x 0) q ∙ sym (rw t), sym (rw t))
 
-    pub one_other : {r : ReadAnswer} {a : Answer} (s : Step) → s ≡ lone_step form text at → OneOf (1 ∷ 2 ∷ []) (tag_of the_type s)
+    pub one_other : {r : ReadAnswer} {a : Answer} (s : Step) → s ≡ lone_step form text at → NotRead s
         → a ≡ step_answer_after 0 s → r ≡ carrying a 0 → ReadOnePromise form text at words r words
     unfolding one_reading one_words
     one_other {r} s is o q z =

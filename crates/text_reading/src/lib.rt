@@ -1,5 +1,6 @@
 // A whole text: measured, and read; one element of it.
 #![tactic(auto)]
+
 ghost use Rattle.text_reading.specs.Promises.{MeasurePromise, ReadPromise, ReadElementPromise, ReadOnePromise};
 
 use element_reading::Step;

@@ -1,5 +1,6 @@
 // A text respelt in a form: by runs of what lent tables read and spell, and between them element by element.
 #![tactic(auto)]
+
 ghost use Rattle.std.specs.Prelude.{◌≡◌, ◌+◌, ◌≤◌, ◌<◌, length, drop};
 ghost use Rattle.run.specs.Head.{outcome};
 ghost use Rattle.run.specs.Answers.{carrying, written_of, roomy_answer, RoomFor, same};

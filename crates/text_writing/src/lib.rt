@@ -1,5 +1,6 @@
 // Words written as a text: by runs of what the form's lent table spells, and between them element by element.
 #![tactic(auto)]
+
 ghost use Rattle.std.specs.Prelude.{◌≡◌, ◌+◌, ◌≤◌, length};
 ghost use Rattle.run.specs.Head.{outcome};
 ghost use Rattle.run.specs.Answers.{written_of, roomy_answer, RoomFor, same};

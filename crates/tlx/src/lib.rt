@@ -1,5 +1,6 @@
 // The TLX case: its pages, read one by one (document 01, "The TLX case"). What `case_table` and `case_writing` have for a user is handed on.
 #![tactic(auto)]
+
 ghost use Rattle.std.specs.Prelude.{◌≡◌, length};
 ghost use Rattle.element_words.specs.Words.{words_of};
 ghost use Rattle.run.specs.Answers.{RoomFor};

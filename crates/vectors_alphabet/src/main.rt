@@ -1,6 +1,7 @@
 // Prints what the alphabets answer, a line an answer, for the gate to hold against the file `stdout`,
 // which is made from a model of the documents and from other decoders' answers, never from our code.
 #![tactic(auto)]
+
 mod peers;
 mod say;
 

@@ -4,6 +4,7 @@
 // A file has a heading and a line a vector, with commas between: the form, the two texts, the eleven numbers of the answer, and the octets
 // of the part that is handed back. The first of the numbers is in decimal, everything else in hex.
 #![tactic(auto)]
+
 use compare::Comparison;
 use lines::answer::{put, put_after_space, put_numbers};
 use lines::fields::{field, number_in, octets_in};

@@ -8,6 +8,7 @@
 // In an answer of ours `?` stands after what is not put as it should be: in number, with room for just it, with too little room,
 // or with the entries around it left alone.
 #![tactic(auto)]
+
 mod spelt;
 mod words;
 

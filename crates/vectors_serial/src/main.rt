@@ -9,6 +9,7 @@
 // else in hex.
 // In an outcome of ours `?` stands where an entry that should be left alone is not, within the room or past it.
 #![tactic(auto)]
+
 mod calls;
 
 use calls::{answer_calls, carry_in, put_fed};

@@ -11,6 +11,7 @@
 // Two files have texts that the GNU C library decoded, with what it gave (`peers`): their answers are compared with ours up to the
 // differences that docs/PEERS.md lists.
 #![tactic(auto)]
+
 mod calls;
 mod peers;
 

@@ -9,6 +9,7 @@
 // The number of an answer is in decimal, and everything else in hex. Lists of long cases are written as runs (`runs`).
 // In an answer of ours `?` stands where an entry that should be left alone is not, within the room or past it.
 #![tactic(auto)]
+
 mod calls;
 mod runs;
 

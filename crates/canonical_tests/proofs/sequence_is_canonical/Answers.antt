@@ -15,8 +15,8 @@ pub loop-i-init : goal.loop-i-init
 loop-i-init c =
     let l = c.args.octets.now in
     elim c.if-octets-gt1.branch [
-      then-octets-gt1+else-octets-eq48 w ↦ first_other l w.if-octets-eq48.false
-    | else-octets-gt1 w ↦ no_first l w.if-octets-gt1.false
+      | then-octets-gt1+else-octets-eq48 w ↦ first_other l w.if-octets-eq48.false
+      | else-octets-gt1 w ↦ no_first l w.if-octets-gt1.false
     ]
 
 pub returns-then-octets-i-ge128 : goal.returns-then-octets-i-ge128
@@ -37,8 +37,8 @@ loop-i-preserved c =
     let t = c.loop-i-test.true in
     let u = c.if-octets-i-ge128.false in
     elim c.if-octets-i-eq48.branch [
-      then-octets-i-eq48+else-octets-i-eq59 w ↦ left_inside _ _ i t u w.if-octets-i-eq59.false
-    | else-octets-i-eq48 w ↦ left_other _ _ i t u w.if-octets-i-eq48.false
+      | then-octets-i-eq48+else-octets-i-eq59 w ↦ left_inside _ _ i t u w.if-octets-i-eq59.false
+      | else-octets-i-eq48 w ↦ left_other _ _ i t u w.if-octets-i-eq48.false
     ]
 
 pub returns : goal.returns

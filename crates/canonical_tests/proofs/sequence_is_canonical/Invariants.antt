@@ -5,7 +5,6 @@ use lib.ListN.{length}
 use Rattle.canonical_tests.proofs.Scan.{Left}
 use Rattle.canonical_tests.proofs.sequence_is_canonical.Given as goal
 
-
 abbrev pub invariant-loop-i : goal.invariant-loop-i
 invariant-loop-i l = Left l.octets l.i
 

@@ -23,12 +23,11 @@ pub loop-k-smaller : goal.loop-k-smaller
 loop-k-smaller c = omega arith
 
 pub loop-k-preserved : goal.loop-k-preserved
-loop-k-preserved c =
-    (
-      omega arith,
-      values_more c.args.v c.loop-k.k _ (omega arith) c.loop-k.invariant.1
-          c.put_one-i.ensures c.value_at.ensures,
-    )
+loop-k-preserved c = (
+  omega arith,
+  values_more c.args.v c.loop-k.k _ (omega arith) c.loop-k.invariant.1
+      c.put_one-i.ensures c.value_at.ensures,
+)
 
 pub returns : goal.returns
 returns c =

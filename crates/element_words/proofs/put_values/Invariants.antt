@@ -5,7 +5,6 @@ use Rattle.run.specs.Put.{Put}
 use Rattle.sequence_reading.specs.EightValues.{list_of}
 use Rattle.element_words.proofs.put_values.Given as goal
 
-
 abbrev pub invariant-loop-k : goal.invariant-loop-k
 invariant-loop-k l = (l.k ≤ l.n) × Put l.initial.words l.at (take l.k (list_of l.v)) l.words l.i
 

@@ -35,8 +35,8 @@ loop-i-preserved c =
     let h = c.loop-i-test.true in
     let e = sym c.step-n.ensures in
     elim c.match-n.branch [
-      in-More w ↦ rw (w.values-is, w.s-is) (reached_more _ _ _ _ _ r h _ (e ∙ w.in-More.is))
-    | in-Value w ↦ rw (w.values-is, w.s-is) (reached_value _ _ _ _ _ r h _ (e ∙ w.in-Value.is) w.stored-values.ensures)
+      | in-More w ↦ rw (w.values-is, w.s-is) (reached_more _ _ _ _ _ r h _ (e ∙ w.in-More.is))
+      | in-Value w ↦ rw (w.values-is, w.s-is) (reached_value _ _ _ _ _ r h _ (e ∙ w.in-Value.is) w.stored-values.ensures)
     ]
 
 pub returns : goal.returns

@@ -4,7 +4,6 @@ use lib.ListN.{length}
 use Rattle.sequence_reading.proofs.Places.{Reached}
 use Rattle.sequence_reading.proofs.read_sequence.Given as goal
 
-
 abbrev pub invariant-loop-i : goal.invariant-loop-i
 invariant-loop-i l = Reached l.text l.at l.values l.s l.i
 

@@ -57,8 +57,8 @@ returns c =
     (record {
       middle =
           elim c.if-middle-ne0.branch [
-            then-middle-ne0+else-middle-lt32+else-middle-gt47 w ↦ inr (omega arith, omega arith)
-          | else-middle-ne0 w ↦ inl (omega arith)
+            | then-middle-ne0+else-middle-lt32+else-middle-gt47 w ↦ inr (omega arith, omega arith)
+            | else-middle-ne0 w ↦ inl (omega arith)
           ];
       low = omega arith;
       high = omega arith;

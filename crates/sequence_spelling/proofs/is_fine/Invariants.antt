@@ -3,7 +3,6 @@ use Prim.Native.Nat.{ℕ, ◌≤◌, ◌<◌, ◌-◌}
 use lib.ListN.{length, get_or}
 use Rattle.sequence_spelling.proofs.is_fine.Given as goal
 
-
 abbrev pub invariant-loop-k : goal.invariant-loop-k
 invariant-loop-k l = (l.k ≤ length l.values) × ((j : ℕ) → j < l.k → get_or l.values j 0 ≤ 999)
 

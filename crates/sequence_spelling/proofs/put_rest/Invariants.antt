@@ -4,7 +4,6 @@ use lib.ListN.{length}
 use Rattle.sequence_spelling.proofs.Puts.{Partly}
 use Rattle.sequence_spelling.proofs.put_rest.Given as goal
 
-
 abbrev pub invariant-loop-k : goal.invariant-loop-k
 invariant-loop-k l = Partly l.initial.out l.at l.values l.out l.i l.k
 

@@ -5,7 +5,6 @@ use lib.ListN.{length, drop}
 use Rattle.sequence_spelling.specs.SequenceOctets.{spell_rest}
 use Rattle.sequence_spelling.proofs.values_size.Given as goal
 
-
 abbrev pub invariant-loop-k : goal.invariant-loop-k
 invariant-loop-k l = (l.k ≤ length l.values) × (l.n + length (spell_rest (drop l.k l.values)) ≡ length (spell_rest l.values))
 

@@ -29,21 +29,21 @@ put_run-k-requires c =
 pub overflow_add-at : goal.overflow_add-at
 overflow_add-at c =
     let after_run =
-        let a = c.args in
-        let p = c.requires in
-        let i = c.loop-at in
-        filled_run a.form a.text.now a.codes.now a.squares.now p.lent a.words.now p.room i.invariant _ _
-        c.put_run-k.ensures in
+    let a = c.args in
+    let p = c.requires in
+    let i = c.loop-at in
+    filled_run a.form a.text.now a.codes.now a.squares.now p.lent a.words.now p.room i.invariant _ _
+    c.put_run-k.ensures in
     search (rules, after_run.passed.inside)
 
 pub overflow_add-o : goal.overflow_add-o
 overflow_add-o c =
     let after_run =
-        let a = c.args in
-        let p = c.requires in
-        let i = c.loop-at in
-        filled_run a.form a.text.now a.codes.now a.squares.now p.lent a.words.now p.room i.invariant _ _
-        c.put_run-k.ensures in
+    let a = c.args in
+    let p = c.requires in
+    let i = c.loop-at in
+    filled_run a.form a.text.now a.codes.now a.squares.now p.lent a.words.now p.room i.invariant _ _
+    c.put_run-k.ensures in
     let a = c.args in
     let p = c.requires in
     search (rules, fill_small (reads a.form) (few_words a.form) a.text.now a.words.now p.room after_run)
@@ -51,67 +51,67 @@ overflow_add-o c =
 pub offset_bounds-words-o : goal.offset_bounds-words-o
 offset_bounds-words-o c =
     let after_run =
-        let a = c.args in
-        let p = c.requires in
-        let i = c.loop-at in
-        filled_run a.form a.text.now a.codes.now a.squares.now p.lent a.words.now p.room i.invariant _ _
-        c.put_run-k.ensures in
+    let a = c.args in
+    let p = c.requires in
+    let i = c.loop-at in
+    filled_run a.form a.text.now a.codes.now a.squares.now p.lent a.words.now p.room i.invariant _ _
+    c.put_run-k.ensures in
     let pair_room =
-        let a = c.args in
-        let p = c.requires in
-        let was = after_run in
-        room_for_pair a.form a.text.now a.codes.now a.squares.now p.lent a.words.now p.room was _
-        c.pair_at-x.ensures
-        c.if-x-ne0.true in
+    let a = c.args in
+    let p = c.requires in
+    let was = after_run in
+    room_for_pair a.form a.text.now a.codes.now a.squares.now p.lent a.words.now p.room was _
+    c.pair_at-x.ensures
+    c.if-x-ne0.true in
     search (rules, pair_room, put_length after_run.put)
 
 pub bounds-words-o : goal.bounds-words-o
 bounds-words-o c =
     let after_run =
-        let a = c.args in
-        let p = c.requires in
-        let i = c.loop-at in
-        filled_run a.form a.text.now a.codes.now a.squares.now p.lent a.words.now p.room i.invariant _ _
-        c.put_run-k.ensures in
+    let a = c.args in
+    let p = c.requires in
+    let i = c.loop-at in
+    filled_run a.form a.text.now a.codes.now a.squares.now p.lent a.words.now p.room i.invariant _ _
+    c.put_run-k.ensures in
     let pair_room =
-        let a = c.args in
-        let p = c.requires in
-        let was = after_run in
-        room_for_pair a.form a.text.now a.codes.now a.squares.now p.lent a.words.now p.room was _
-        c.pair_at-x.ensures
-        c.if-x-ne0.true in
+    let a = c.args in
+    let p = c.requires in
+    let was = after_run in
+    room_for_pair a.form a.text.now a.codes.now a.squares.now p.lent a.words.now p.room was _
+    c.pair_at-x.ensures
+    c.if-x-ne0.true in
     pair_room
 
 pub overflow_add-at-then-x-ne0 : goal.overflow_add-at-then-x-ne0
 overflow_add-at-then-x-ne0 c =
     let after_run =
-        let a = c.args in
-        let p = c.requires in
-        let i = c.loop-at in
-        filled_run a.form a.text.now a.codes.now a.squares.now p.lent a.words.now p.room i.invariant _ _
-        c.put_run-k.ensures in
+    let a = c.args in
+    let p = c.requires in
+    let i = c.loop-at in
+    filled_run a.form a.text.now a.codes.now a.squares.now p.lent a.words.now p.room i.invariant _ _
+    c.put_run-k.ensures in
     let after_pair =
-        let a = c.args in
-        let p = c.requires in
-        let was = after_run in
-        filled_pair a.form a.text.now a.codes.now a.squares.now p.lent a.words.now p.room was _ c.pair_at-x.ensures
-        c.if-x-ne0.true in
+    let a = c.args in
+    let p = c.requires in
+    let was = after_run in
+    filled_pair a.form a.text.now a.codes.now a.squares.now p.lent a.words.now p.room was _ c.pair_at-x.ensures
+    c.if-x-ne0.true in
     search (rules, after_pair.passed.inside)
 
 pub overflow_add-o-then-x-ne0 : goal.overflow_add-o-then-x-ne0
 overflow_add-o-then-x-ne0 c =
     let after_run =
-        let a = c.args in
-        let p = c.requires in
-        let i = c.loop-at in
-        filled_run a.form a.text.now a.codes.now a.squares.now p.lent a.words.now p.room i.invariant _ _
-        c.put_run-k.ensures in
+    let a = c.args in
+    let p = c.requires in
+    let i = c.loop-at in
+    filled_run a.form a.text.now a.codes.now a.squares.now p.lent a.words.now p.room i.invariant _ _
+    c.put_run-k.ensures in
     let after_pair =
-        let a = c.args in
-        let p = c.requires in
-        let was = after_run in
-        filled_pair a.form a.text.now a.codes.now a.squares.now p.lent a.words.now p.room was _ c.pair_at-x.ensures
-        c.if-x-ne0.true in
+    let a = c.args in
+    let p = c.requires in
+    let was = after_run in
+    filled_pair a.form a.text.now a.codes.now a.squares.now p.lent a.words.now p.room was _ c.pair_at-x.ensures
+    c.if-x-ne0.true in
     let a = c.args in
     let p = c.requires in
     search (rules, fill_small (reads a.form) (few_words a.form) a.text.now a.words.now p.room after_pair)
@@ -119,53 +119,53 @@ overflow_add-o-then-x-ne0 c =
 pub loop-at-smaller-then-x-ne0 : goal.loop-at-smaller-then-x-ne0
 loop-at-smaller-then-x-ne0 c =
     let after_run =
-        let a = c.args in
-        let p = c.requires in
-        let i = c.loop-at in
-        filled_run a.form a.text.now a.codes.now a.squares.now p.lent a.words.now p.room i.invariant _ _
-        c.put_run-k.ensures in
+    let a = c.args in
+    let p = c.requires in
+    let i = c.loop-at in
+    filled_run a.form a.text.now a.codes.now a.squares.now p.lent a.words.now p.room i.invariant _ _
+    c.put_run-k.ensures in
     let after_pair =
-        let a = c.args in
-        let p = c.requires in
-        let was = after_run in
-        filled_pair a.form a.text.now a.codes.now a.squares.now p.lent a.words.now p.room was _ c.pair_at-x.ensures
-        c.if-x-ne0.true in
+    let a = c.args in
+    let p = c.requires in
+    let was = after_run in
+    filled_pair a.form a.text.now a.codes.now a.squares.now p.lent a.words.now p.room was _ c.pair_at-x.ensures
+    c.if-x-ne0.true in
     omega (arith, after_pair.passed.inside)
 
 pub loop-at-preserved-then-x-ne0 : goal.loop-at-preserved-then-x-ne0
 loop-at-preserved-then-x-ne0 c =
     let after_run =
-        let a = c.args in
-        let p = c.requires in
-        let i = c.loop-at in
-        filled_run a.form a.text.now a.codes.now a.squares.now p.lent a.words.now p.room i.invariant _ _
-        c.put_run-k.ensures in
+    let a = c.args in
+    let p = c.requires in
+    let i = c.loop-at in
+    filled_run a.form a.text.now a.codes.now a.squares.now p.lent a.words.now p.room i.invariant _ _
+    c.put_run-k.ensures in
     let after_pair =
-        let a = c.args in
-        let p = c.requires in
-        let was = after_run in
-        filled_pair a.form a.text.now a.codes.now a.squares.now p.lent a.words.now p.room was _ c.pair_at-x.ensures
-        c.if-x-ne0.true in
+    let a = c.args in
+    let p = c.requires in
+    let was = after_run in
+    filled_pair a.form a.text.now a.codes.now a.squares.now p.lent a.words.now p.room was _ c.pair_at-x.ensures
+    c.if-x-ne0.true in
     after_pair
 
 pub shape_of-words-in_default : goal.shape_of-words-in_default
 shape_of-words-in_default c =
     let after_run =
-        let a = c.args in
-        let p = c.requires in
-        let i = c.loop-at in
-        filled_run a.form a.text.now a.codes.now a.squares.now p.lent a.words.now p.room i.invariant _ _
-        c.put_run-k.ensures in
+    let a = c.args in
+    let p = c.requires in
+    let i = c.loop-at in
+    filled_run a.form a.text.now a.codes.now a.squares.now p.lent a.words.now p.room i.invariant _ _
+    c.put_run-k.ensures in
     put_length after_run.put
 
 pub returns-in_default : goal.returns-in_default
 returns-in_default c =
     let after_run =
-        let a = c.args in
-        let p = c.requires in
-        let i = c.loop-at in
-        filled_run a.form a.text.now a.codes.now a.squares.now p.lent a.words.now p.room i.invariant _ _
-        c.put_run-k.ensures in
+    let a = c.args in
+    let p = c.requires in
+    let i = c.loop-at in
+    filled_run a.form a.text.now a.codes.now a.squares.now p.lent a.words.now p.room i.invariant _ _
+    c.put_run-k.ensures in
     let a = c.args in
     let p = c.requires in
     let was = after_run in
@@ -175,11 +175,11 @@ returns-in_default c =
 pub loop-at-smaller-else-x-ne0 : goal.loop-at-smaller-else-x-ne0
 loop-at-smaller-else-x-ne0 c =
     let after_run =
-        let a = c.args in
-        let p = c.requires in
-        let i = c.loop-at in
-        filled_run a.form a.text.now a.codes.now a.squares.now p.lent a.words.now p.room i.invariant _ _
-        c.put_run-k.ensures in
+    let a = c.args in
+    let p = c.requires in
+    let i = c.loop-at in
+    filled_run a.form a.text.now a.codes.now a.squares.now p.lent a.words.now p.room i.invariant _ _
+    c.put_run-k.ensures in
     let found = here _ _ _ _ _ _ (sym c.element_at-step.ensures.0 ∙ c.in-Element.is) in
     let f = c.args.form in
     let h = found in
@@ -188,11 +188,11 @@ loop-at-smaller-else-x-ne0 c =
 pub loop-at-preserved-else-x-ne0 : goal.loop-at-preserved-else-x-ne0
 loop-at-preserved-else-x-ne0 c =
     let after_run =
-        let a = c.args in
-        let p = c.requires in
-        let i = c.loop-at in
-        filled_run a.form a.text.now a.codes.now a.squares.now p.lent a.words.now p.room i.invariant _ _
-        c.put_run-k.ensures in
+    let a = c.args in
+    let p = c.requires in
+    let i = c.loop-at in
+    filled_run a.form a.text.now a.codes.now a.squares.now p.lent a.words.now p.room i.invariant _ _
+    c.put_run-k.ensures in
     let found = here _ _ _ _ _ _ (sym c.element_at-step.ensures.0 ∙ c.in-Element.is) in
     let f = c.args.form in
     let h = found in
@@ -203,21 +203,21 @@ loop-at-preserved-else-x-ne0 c =
 pub loop-at-preserved-else-at-text : goal.loop-at-preserved-else-at-text
 loop-at-preserved-else-at-text c =
     let after_run =
-        let a = c.args in
-        let p = c.requires in
-        let i = c.loop-at in
-        filled_run a.form a.text.now a.codes.now a.squares.now p.lent a.words.now p.room i.invariant _ _
-        c.put_run-k.ensures in
+    let a = c.args in
+    let p = c.requires in
+    let i = c.loop-at in
+    filled_run a.form a.text.now a.codes.now a.squares.now p.lent a.words.now p.room i.invariant _ _
+    c.put_run-k.ensures in
     after_run
 
 pub loop-at-preserved : goal.loop-at-preserved
 loop-at-preserved c =
     let after_run =
-        let a = c.args in
-        let p = c.requires in
-        let i = c.loop-at in
-        filled_run a.form a.text.now a.codes.now a.squares.now p.lent a.words.now p.room i.invariant _ _
-        c.put_run-k.ensures in
+    let a = c.args in
+    let p = c.requires in
+    let i = c.loop-at in
+    filled_run a.form a.text.now a.codes.now a.squares.now p.lent a.words.now p.room i.invariant _ _
+    c.put_run-k.ensures in
     after_run
 
 pub shape_of-words : goal.shape_of-words

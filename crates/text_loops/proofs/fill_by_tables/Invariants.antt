@@ -7,7 +7,6 @@ use Rattle.element_words.specs.Words.{words_of}
 use Rattle.element_reading.specs.ElementHead.{head_in}
 use Rattle.text_loops.proofs.fill_by_tables.Given as goal
 
-
 abbrev pub invariant-loop-at : goal.invariant-loop-at
 invariant-loop-at l = Filled (head_in l.form) words_of 34 l.text l.initial.words l.at l.o l.words
 

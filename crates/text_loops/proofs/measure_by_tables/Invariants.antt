@@ -5,7 +5,6 @@ use lib.ListN.{length}
 use Rattle.text_loops.specs.LawWords.{CountedBoth}
 use Rattle.text_loops.proofs.measure_by_tables.Given as goal
 
-
 abbrev pub invariant-loop-at : goal.invariant-loop-at
 invariant-loop-at l = CountedBoth l.form l.text l.at l.n l.count l.respelled
 

@@ -20,22 +20,22 @@ returns-then-w-ge-NO_CHARACTER c =
 pub overflow_add-words : goal.overflow_add-words
 overflow_add-words c =
     let room =
-        let p = c.requires in
-        stored_room _ _ _ _ _ _ _ _ c.loop-i.invariant c.loop-i-test.true p.inside _ c.code_in-w.ensures c.if-w-ge-NO_CHARACTER.false p.room in
+    let p = c.requires in
+    stored_room _ _ _ _ _ _ _ _ c.loop-i.invariant c.loop-i-test.true p.inside _ c.code_in-w.ensures c.if-w-ge-NO_CHARACTER.false p.room in
     omega (arith, room)
 
 pub offset_bounds-words-o : goal.offset_bounds-words-o
 offset_bounds-words-o c =
     let room =
-        let p = c.requires in
-        stored_room _ _ _ _ _ _ _ _ c.loop-i.invariant c.loop-i-test.true p.inside _ c.code_in-w.ensures c.if-w-ge-NO_CHARACTER.false p.room in
+    let p = c.requires in
+    stored_room _ _ _ _ _ _ _ _ c.loop-i.invariant c.loop-i-test.true p.inside _ c.code_in-w.ensures c.if-w-ge-NO_CHARACTER.false p.room in
     search (rules, room, stored_length _ _ _ _ _ _ _ _ c.loop-i.invariant)
 
 pub bounds-words-o : goal.bounds-words-o
 bounds-words-o c =
     let room =
-        let p = c.requires in
-        stored_room _ _ _ _ _ _ _ _ c.loop-i.invariant c.loop-i-test.true p.inside _ c.code_in-w.ensures c.if-w-ge-NO_CHARACTER.false p.room in
+    let p = c.requires in
+    stored_room _ _ _ _ _ _ _ _ c.loop-i.invariant c.loop-i-test.true p.inside _ c.code_in-w.ensures c.if-w-ge-NO_CHARACTER.false p.room in
     room
 
 pub loop-i-preserved : goal.loop-i-preserved

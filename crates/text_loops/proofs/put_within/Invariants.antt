@@ -4,7 +4,6 @@ use Prim.Native.Nat.{◌-◌}
 use Rattle.text_loops.proofs.RunsAndPairs.{Stored}
 use Rattle.text_loops.proofs.put_within.Given as goal
 
-
 abbrev pub invariant-loop-i : goal.invariant-loop-i
 invariant-loop-i l = Stored l.codes l.text l.at l.most l.initial.words l.o l.i l.words
 

@@ -50,18 +50,18 @@ pub overflow_add-respelled : goal.overflow_add-respelled
 overflow_add-respelled c =
     let graphic = graphic_here _ _ _ _ c.loop-at-test.true (sym c.in-Graphic.is ∙ c.sort_in-sort.ensures.0) in
     let graphic_taken : let a = c.args in let l = c.loop-at in TakenBoth a.form a.text.now a.into.now (l.at + 1) (l.elements + 1) (l.filled + 1) (l.respelled + c.not_canonical-respelled.result) (set l.into l.filled c.in-Graphic.c) =
-        let a = c.args in
-        let h = graphic in
-        let is = sym c.in-Graphic.is ∙ c.sort_in-sort.ensures.0 in
-        record {
-          taken =
-              take_turn (reads a.form) (few_words a.form) a.text.now a.into.now c.loop-at.invariant.taken h.here h.onward
-              put_entry;
-          tallied =
-              tally_turn a.form a.text.now c.loop-at.invariant.tallied
-              (graphic_told a.form a.text.now _ _ _ c.loop-at-test.true is c.word_is_canonical-canonical.ensures)
-              c.not_canonical-respelled.ensures;
-        } in
+    let a = c.args in
+    let h = graphic in
+    let is = sym c.in-Graphic.is ∙ c.sort_in-sort.ensures.0 in
+    record {
+      taken =
+          take_turn (reads a.form) (few_words a.form) a.text.now a.into.now c.loop-at.invariant.taken h.here h.onward
+          put_entry;
+      tallied =
+          tally_turn a.form a.text.now c.loop-at.invariant.tallied
+          (graphic_told a.form a.text.now _ _ _ c.loop-at-test.true is c.word_is_canonical-canonical.ensures)
+          c.not_canonical-respelled.ensures;
+    } in
     let a = c.args in
     let both = graphic_taken in
     search (rules, tally_small a.form a.text.now both.tallied, both.taken.counted.passed.inside)
@@ -70,18 +70,18 @@ pub loop-at-preserved-in-Graphic : goal.loop-at-preserved-in-Graphic
 loop-at-preserved-in-Graphic c =
     let graphic = graphic_here _ _ _ _ c.loop-at-test.true (sym c.in-Graphic.is ∙ c.sort_in-sort.ensures.0) in
     let graphic_taken : let a = c.args in let l = c.loop-at in TakenBoth a.form a.text.now a.into.now (l.at + 1) (l.elements + 1) (l.filled + 1) (l.respelled + c.not_canonical-respelled.result) (set l.into l.filled c.in-Graphic.c) =
-        let a = c.args in
-        let h = graphic in
-        let is = sym c.in-Graphic.is ∙ c.sort_in-sort.ensures.0 in
-        record {
-          taken =
-              take_turn (reads a.form) (few_words a.form) a.text.now a.into.now c.loop-at.invariant.taken h.here h.onward
-              put_entry;
-          tallied =
-              tally_turn a.form a.text.now c.loop-at.invariant.tallied
-              (graphic_told a.form a.text.now _ _ _ c.loop-at-test.true is c.word_is_canonical-canonical.ensures)
-              c.not_canonical-respelled.ensures;
-        } in
+    let a = c.args in
+    let h = graphic in
+    let is = sym c.in-Graphic.is ∙ c.sort_in-sort.ensures.0 in
+    record {
+      taken =
+          take_turn (reads a.form) (few_words a.form) a.text.now a.into.now c.loop-at.invariant.taken h.here h.onward
+          put_entry;
+      tallied =
+          tally_turn a.form a.text.now c.loop-at.invariant.tallied
+          (graphic_told a.form a.text.now _ _ _ c.loop-at-test.true is c.word_is_canonical-canonical.ensures)
+          c.not_canonical-respelled.ensures;
+    } in
     graphic_taken
 
 pub shape_of-into-in_default-step : goal.shape_of-into-in_default-step
@@ -101,8 +101,8 @@ overflow_add-elements-in_default c =
 pub overflow_add-respelled-in_default : goal.overflow_add-respelled-in_default
 overflow_add-respelled-in_default c =
     let found : let a = c.args in HereStands (head_in a.form (drop c.loop-at.at a.text.now)) c.loop-at.at c.in-Element.e c.in-Element.next × HereStands (canonical_head a.form (drop c.loop-at.at a.text.now)) c.loop-at.at (c.in-Element.e, c.in-Element.canonical) c.in-Element.next =
-        let is = sym c.element_at-step.ensures.0 ∙ c.in-Element.is in
-        (here _ _ _ _ _ _ is, told_here _ _ _ _ _ _ is) in
+    let is = sym c.element_at-step.ensures.0 ∙ c.in-Element.is in
+    (here _ _ _ _ _ _ is, told_here _ _ _ _ _ _ is) in
     let a = c.args in
     let both = tally_turn a.form a.text.now c.loop-at.invariant.tallied found.1 c.not_canonical-respelled-in_default.ensures in
     search (rules, tally_small a.form a.text.now both, both.passed.inside)
@@ -110,8 +110,8 @@ overflow_add-respelled-in_default c =
 pub loop-at-smaller : goal.loop-at-smaller
 loop-at-smaller c =
     let found : let a = c.args in HereStands (head_in a.form (drop c.loop-at.at a.text.now)) c.loop-at.at c.in-Element.e c.in-Element.next × HereStands (canonical_head a.form (drop c.loop-at.at a.text.now)) c.loop-at.at (c.in-Element.e, c.in-Element.canonical) c.in-Element.next =
-        let is = sym c.element_at-step.ensures.0 ∙ c.in-Element.is in
-        (here _ _ _ _ _ _ is, told_here _ _ _ _ _ _ is) in
+    let is = sym c.element_at-step.ensures.0 ∙ c.in-Element.is in
+    (here _ _ _ _ _ _ is, told_here _ _ _ _ _ _ is) in
     let a = c.args in
     let h = found.0 in
     omega (arith, count_onward (reads a.form) (few_words a.form) a.text.now c.loop-at.invariant.taken.counted h.here, h.onward)
@@ -119,8 +119,8 @@ loop-at-smaller c =
 pub loop-at-preserved : goal.loop-at-preserved
 loop-at-preserved c =
     let found : let a = c.args in HereStands (head_in a.form (drop c.loop-at.at a.text.now)) c.loop-at.at c.in-Element.e c.in-Element.next × HereStands (canonical_head a.form (drop c.loop-at.at a.text.now)) c.loop-at.at (c.in-Element.e, c.in-Element.canonical) c.in-Element.next =
-        let is = sym c.element_at-step.ensures.0 ∙ c.in-Element.is in
-        (here _ _ _ _ _ _ is, told_here _ _ _ _ _ _ is) in
+    let is = sym c.element_at-step.ensures.0 ∙ c.in-Element.is in
+    (here _ _ _ _ _ _ is, told_here _ _ _ _ _ _ is) in
     let a = c.args in
     let h = found in
     let room = into_room a.form a.text.now c.loop-at.invariant c.requires h.0 in

@@ -5,7 +5,6 @@ use lib.ListN.{length}
 use Rattle.text_loops.specs.LawWords.{TakenBoth}
 use Rattle.text_loops.proofs.read_by_elements.Given as goal
 
-
 abbrev pub invariant-loop-at : goal.invariant-loop-at
 invariant-loop-at l = TakenBoth l.form l.text l.initial.into l.at l.elements l.filled l.respelled l.into
 

@@ -11,24 +11,24 @@ pub slice_bounds-fill_by_tables-end : goal.slice_bounds-fill_by_tables-end
 slice_bounds-fill_by_tables-end c =
     let wants = sym c.is_wanted.ensures ∙ c.if-is_wanted.true in
     let inside =
-        let a = c.args in
-        wanted_inside a.form a.text.now a.words.now a.o a.whole _ c.measure_by_tables-m.ensures wants in
+    let a = c.args in
+    wanted_inside a.form a.text.now a.words.now a.o a.whole _ c.measure_by_tables-m.ensures wants in
     sym (length-take-le _ _ inside.0)
 
 pub offset_bounds-words-o : goal.offset_bounds-words-o
 offset_bounds-words-o c =
     let wants = sym c.is_wanted.ensures ∙ c.if-is_wanted.true in
     let inside =
-        let a = c.args in
-        wanted_inside a.form a.text.now a.words.now a.o a.whole _ c.measure_by_tables-m.ensures wants in
+    let a = c.args in
+    wanted_inside a.form a.text.now a.words.now a.o a.whole _ c.measure_by_tables-m.ensures wants in
     search (rules, inside)
 
 pub slice_bounds-fill_by_tables-count : goal.slice_bounds-fill_by_tables-count
 slice_bounds-fill_by_tables-count c =
     let wants = sym c.is_wanted.ensures ∙ c.if-is_wanted.true in
     let inside =
-        let a = c.args in
-        wanted_inside a.form a.text.now a.words.now a.o a.whole _ c.measure_by_tables-m.ensures wants in
+    let a = c.args in
+    wanted_inside a.form a.text.now a.words.now a.o a.whole _ c.measure_by_tables-m.ensures wants in
     inside.1
 
 pub fill_by_tables-requires : goal.fill_by_tables-requires

@@ -3,7 +3,6 @@ use Prim.Native.Nat.{◌-◌}
 use Rattle.text_loops.proofs.RunsAndPairs.{RunSoFar}
 use Rattle.text_loops.proofs.run_within.Given as goal
 
-
 abbrev pub invariant-loop-i : goal.invariant-loop-i
 invariant-loop-i l = RunSoFar l.codes l.text l.at l.most l.i
 
