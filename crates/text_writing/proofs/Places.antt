@@ -7,11 +7,8 @@ use mathlib.Core.List.{List, [], ◌∷◌}
 use native.Mathlib.Omega.{arith}
 use lib.ListN.{length, get_or, drop, length-drop}
 use borrow.Author.Tests.{lt-ltb}
-use types.Run.{OneOf}
-use denote.Enum.Declared.{tag_of}
 use Rattle.run.specs.Head.{Head, element, refused, none}
 use Rattle.run.proofs.FromPlace.{at_place}
-use Rattle.element_words.specs.contracts.Meant.{the_type}
 use Rattle.element_words.specs.declared.Element.{Element}
 use Rattle.element_words.specs.declared.Element.TheVariants.{One}
 use Rattle.element_words.specs.declared.Meant.{Meant}
@@ -34,20 +31,15 @@ unfolding meant_at
 word_here words at e next q = here_by (word_head (drop at words)) at e next q
 
 module _ (words : List ℕ) (at : ℕ) (inside : at < length words) where
-  not_word : (x : Meant) → OneOf (1 ∷ 2 ∷ []) (tag_of the_type x) → (e : Element) (k : ℕ) → x ≡ Word e k → ⊥
-  not_word (Word e₀ k₀) o e k q = ⊎_elim (λ z. omega arith) (λ z. omega arith) o
-  not_word NoElement o e k q = let w : ◌≡◌ {A = ℕ} 0 1 = cc in omega arith
-  not_word End o e k q = let w : ◌≡◌ {A = ℕ} 0 1 = cc in omega arith
-
   none_by : (h : Head Element) → word_head (drop at words) ≡ h → ((e : Element) (k : ℕ) → meant_of at h ≡ Word e k → ⊥) → h ≡ refused 10 0
   none_by (element e k) q u = absurd (u e (at + k) refl)
   none_by (refused r d) q u = let z = words_refused (drop at words) r d q in ap₂ refused (sym z.0) (sym z.1)
   none_by none q u = absurd (omega (arith, length-drop at words, ap length (words_read.goes (drop at words) q)))
 
   -- words before the end that are no element are refused with 10, at the first
-  pub no_word_here : (x : Meant) → x ≡ meant_at words at → OneOf (1 ∷ 2 ∷ []) (tag_of the_type x) → word_head (drop at words) ≡ refused 10 0
+  pub no_word_here : (x : Meant) → x ≡ meant_at words at → ((e : Element) (k : ℕ) → x ≡ Word e k → ⊥) → word_head (drop at words) ≡ refused 10 0
   unfolding meant_at
-  no_word_here x q o = none_by (word_head (drop at words)) refl (λ e k z. not_word x o e k (q ∙ z))
+  no_word_here x q o = none_by (word_head (drop at words)) refl (λ e k z. o e k (q ∙ z))
 
 -- ---- a word that is a character's
 

@@ -59,8 +59,8 @@ pub fn not_held(n: usize, at: usize) -> Answer
 // The characters below U+0180 that a list of words begins with, as far as the form's table spells them, counted. The form tells the
 // contract whose table it is.
 fn count_words(form: Form, table: &[u32; 430], words: &[u32]) -> Gone
-    requires table_value { table.now ≡ spelling_table form }
-    requires words_len_bound { length words.now ≤ limit }
+    requires lent { table.now ≡ spelling_table form }
+    requires few { length words.now ≤ limit }
     ensures { Counted (spell_head form) same 34 words.now result.entries result.entries result.octets }
 {
     let mut at = 0;
@@ -84,8 +84,8 @@ fn count_words(form: Form, table: &[u32; 430], words: &[u32]) -> Gone
 
 // The same, written.
 fn put_words(form: Form, table: &[u32; 430], words: &[u32], text: &mut [u8]) -> Gone
-    requires table_value { table.now ≡ spelling_table form }
-    requires room_for { RoomFor same (length text.old) (outcome (spell_head form) words.now) }
+    requires lent { table.now ≡ spelling_table form }
+    requires room { RoomFor same (length text.old) (outcome (spell_head form) words.now) }
     ensures { Filled (spell_head form) same 34 words.now text.old result.entries result.octets text.new }
 {
     let mut at = 0;
@@ -109,8 +109,8 @@ fn put_words(form: Form, table: &[u32; 430], words: &[u32], text: &mut [u8]) -> 
 
 // The first pass of writing: the answer as with room enough. What ends a run is a character above U+017F, or what no table spells.
 fn measure_write(form: Form, table: &[u32; 430], words: &[u32]) -> Answer
-    requires table_value { table.now ≡ spelling_table form }
-    requires words_len_bound { length words.now ≤ limit }
+    requires lent { table.now ≡ spelling_table form }
+    requires few { length words.now ≤ limit }
     ensures { result ≡ roomy_answer same (length words.now) (outcome (spell_head form) words.now) }
 {
     let mut at = 0;
@@ -152,8 +152,8 @@ fn measure_write(form: Form, table: &[u32; 430], words: &[u32]) -> Answer
 
 // The second pass of writing, where the words are accepted and there is room.
 fn fill_write(form: Form, table: &[u32; 430], words: &[u32], text: &mut [u8])
-    requires table_value { table.now ≡ spelling_table form }
-    requires room_for { RoomFor same (length text.old) (outcome (spell_head form) words.now) }
+    requires lent { table.now ≡ spelling_table form }
+    requires room { RoomFor same (length text.old) (outcome (spell_head form) words.now) }
     ensures { text.new ≡ written_of same text.old (outcome (spell_head form) words.now) }
 {
     let mut at = 0;
@@ -181,8 +181,8 @@ fn fill_write(form: Form, table: &[u32; 430], words: &[u32], text: &mut [u8])
 
 // Writes words that are within the limit, by the form's table: measured first, and then filled in.
 fn write_by(form: Form, table: &[u32; 430], words: &[u32], text: &mut [u8]) -> Answer
-    requires table_value { table.now ≡ spelling_table form }
-    requires words_len_bound { length words.now ≤ limit }
+    requires lent { table.now ≡ spelling_table form }
+    requires few { length words.now ≤ limit }
     ensures { WholeAnswer same (length words.now) text.old (outcome (spell_head form) words.now) result text.new }
 {
     let m = measure_write(form, table, words);
