@@ -91,7 +91,7 @@ fn count_characters(
     text: &[u8],
 ) -> Counts
     requires lent { Lent source target codes.now squares.now table.now }
-    requires text_len_bound { length text.now ≤ limit }
+    requires few { length text.now ≤ limit }
     ensures { CountedRespelt source target text.now result.entries result.elements result.octets 0 }
 {
     let mut at = 0;
@@ -129,7 +129,7 @@ fn put_characters(
     out: &mut [u8],
 ) -> Gone
     requires lent { Lent source target codes.now squares.now table.now }
-    requires room_for { RoomFor same (length out.old) (outcome (spelt_by (spell_element target) (head_in source)) text.now) }
+    requires room { RoomFor same (length out.old) (outcome (spelt_by (spell_element target) (head_in source)) text.now) }
     ensures { Filled (spelt_by (spell_element target) (head_in source)) same 34 text.now out.old result.entries result.octets out.new }
 {
     let mut at = 0;
@@ -163,7 +163,7 @@ fn measure_convert(
     text: &[u8],
 ) -> ReadAnswer
     requires lent { Lent source target codes.now squares.now table.now }
-    requires text_len_bound { length text.now ≤ limit }
+    requires few { length text.now ≤ limit }
     ensures { result ≡ carrying (roomy_answer same (length text.now) (outcome (spelt_by (spell_element target) (head_in source)) text.now)) (respelled_before source text.now) }
 {
     let mut at = 0;
@@ -218,7 +218,7 @@ fn fill_convert(
     out: &mut [u8],
 )
     requires lent { Lent source target codes.now squares.now table.now }
-    requires room_for { RoomFor same (length out.old) (outcome (spelt_by (spell_element target) (head_in source)) text.now) }
+    requires room { RoomFor same (length out.old) (outcome (spelt_by (spell_element target) (head_in source)) text.now) }
     ensures { out.new ≡ written_of same out.old (outcome (spelt_by (spell_element target) (head_in source)) text.now) }
 {
     let mut at = 0;
@@ -274,8 +274,8 @@ fn respell_by(
     text: &[u8],
     out: &mut [u8],
 ) -> ReadAnswer
-    requires table_value { table.now ≡ spelling_table target }
-    requires text_len_bound { length text.now ≤ limit }
+    requires lent { table.now ≡ spelling_table target }
+    requires few { length text.now ≤ limit }
     ensures { RespeltAnswer source target text.now out.old result out.new }
 {
     let codes = lent_tables::code_table(source);

@@ -1,12 +1,10 @@
 -- `sort_in` of form 3, arm by arm: each is a test over the arm's octets (`at_keys`, `within`, `without`).
 use native.Mathlib.Omega.{arith}
-use mathlib.Core.Path.{◌≡◌, refl, ◌∙◌}
+use mathlib.Core.Path.{refl, ◌∙◌}
 use mathlib.Core.List.{List, [], ◌∷◌}
-use Prim.Native.Nat.{ℕ, ◌-◌, ◌≤◌, ◌<◌}
-use Rattle.run.specs.Choice.{pick}
-use Rattle.run.proofs.Range.{Rest, single, listed, at_keys, within, without}
+use Prim.Native.Nat.{ℕ}
+use Rattle.run.proofs.Range.{at_keys, within, without}
 use Rattle.sorts.specs.declared.Form.TheVariants.{Basic}
-use Rattle.sorts.specs.declared.Sort.{Sort}
 use Rattle.sorts.specs.declared.Sort.TheVariants.{Graphic, Mark, Underline, Control, SequenceStart, Refused}
 use Rattle.sorts.specs.Sorts.{sort_in, spacing_of}
 use Rattle.sorts.proofs.sort_basic.Goals as goal
@@ -16,16 +14,6 @@ abbrev singles : List (List ℕ)
 singles =
     (0xCC ∷ []) ∷ (0xAB ∷ []) ∷ (0xA5 ∷ []) ∷ (0xA6 ∷ []) ∷ (0xA4 ∷ []) ∷ (0x9B ∷ []) ∷ (0x5D ∷ 0x5F ∷ 0x7C ∷ []) ∷
     (0x5C ∷ 0x5E ∷ 0x60 ∷ 0x7B ∷ 0x7D ∷ []) ∷ (0x24 ∷ []) ∷ (0x19 ∷ 0x1B ∷ 0x1D ∷ []) ∷ (0x08 ∷ 0x0A ∷ 0x1A ∷ []) ∷ []
-
--- an arm's octets, by the bounds that the code's own tests give
-between : (f : ℕ → Sort) {lo end o : ℕ} → lo ≤ o → o < end → listed f lo (end - lo) ≡ listed (sort_in Basic) lo (end - lo)
-    → f o ≡ sort_in Basic o
-between f {lo} {end} {o} h k t = within f (sort_in Basic) lo end t o h k
-
--- the same of the last arm, but at the single numbers
-rest_between : (f : ℕ → Sort) {lo end o : ℕ} → Rest singles o → lo ≤ o → o < end
-    → listed (λ i. pick (single singles i) (sort_in Basic i) (f i)) lo (end - lo) ≡ listed (sort_in Basic) lo (end - lo) → f o ≡ sort_in Basic o
-rest_between f {lo} {end} {o} n h k t = without f (sort_in Basic) singles lo end t o n h k
 
 pub returns-in-36 : goal.returns-in-36
 returns-in-36 c = at_keys (λ o. Graphic 0xA4) (sort_in Basic) (0x24 ∷ []) (unfold sort_in spacing_of in refl) _ c.in-36.is
@@ -126,8 +114,8 @@ returns-in_default-3 c =
 
 pub returns-in_default-4 : goal.returns-in_default-4
 returns-in_default-4 c =
-    rest_between (λ o. Refused 1) c.in_default.in_default-own.rest c.in_default.if-octet-lt141-own.false c.in_default.if-octet-lt161-own.true
-    (unfold sort_in spacing_of in refl)
+    without (λ o. Refused 1) (sort_in Basic) singles 0x8D 0xA1 (unfold sort_in spacing_of in refl) _ c.in_default.in_default-own.rest
+    (omega arith) (omega arith)
 
 pub returns-in_default-5 : goal.returns-in_default-5
 returns-in_default-5 c =
@@ -165,4 +153,4 @@ pub returns-in-8-2 : goal.returns-in-8-2
 returns-in-8-2 c = within (λ o. Control) (sort_in Basic) 0x0C 0x0E (unfold sort_in spacing_of in refl) _ (omega arith) (omega arith)
 
 pub returns-in-8-3 : goal.returns-in-8-3
-returns-in-8-3 c = between (λ o. Control) c.in-8.if-octet-lt139-own.false c.in-8.if-octet-lt141-own.true (unfold sort_in spacing_of in refl)
+returns-in-8-3 c = within (λ o. Control) (sort_in Basic) 0x8B 0x8D (unfold sort_in spacing_of in refl) _ (omega arith) (omega arith)
