@@ -2,7 +2,6 @@
 -- Assumes nothing.
 use Prim.Native.Nat.{ℕ, ◌+◌, ◌≤◌, ◌<◌}
 use mathlib.Core.Path.{◌≡◌, refl, sym, ap, ap₂, ◌∙◌, subst}
-use mathlib.Core.Logic.{⊎_elim}
 use mathlib.Core.Bool.{Bool}
 use mathlib.Core.List.{List, [], ◌∷◌}
 use native.Mathlib.Omega.{arith}
@@ -24,7 +23,7 @@ use Rattle.sorts.specs.Sorts.{sort_in}
 use Rattle.element_words.specs.declared.Element.{Element}
 use Rattle.element_words.specs.declared.Element.TheVariants.{One}
 use Rattle.element_reading.specs.declared.Step.{Step}
-use Rattle.element_reading.specs.declared.Step.TheVariants.{Element as Read, Refused as Stopped, End}
+use Rattle.element_reading.specs.declared.Step.TheVariants.{Element as Read}
 use Rattle.element_words.specs.Words.{words_of}
 use Rattle.element_spelling.specs.ElementOctets.{is_canonical}
 use Rattle.canonical_tests.specs.Tests.{word_canonical}

@@ -2,8 +2,7 @@
 -- Assumes nothing.
 use Prim.Native.Nat.{ℕ, ◌+◌, ◌<◌}
 use mathlib.Core.Path.{◌≡◌, refl, sym, ap, ap₂, ◌∙◌}
-use mathlib.Core.Logic.{⊎_elim}
-use mathlib.Core.List.{List, [], ◌∷◌}
+use mathlib.Core.List.{List}
 use native.Mathlib.Omega.{arith}
 use lib.ListN.{length, get_or, drop, length-drop}
 use borrow.Author.Tests.{lt-ltb}
@@ -12,7 +11,7 @@ use Rattle.run.proofs.FromPlace.{at_place}
 use Rattle.element_words.specs.declared.Element.{Element}
 use Rattle.element_words.specs.declared.Element.TheVariants.{One}
 use Rattle.element_words.specs.declared.Meant.{Meant}
-use Rattle.element_words.specs.declared.Meant.TheVariants.{Element as Word, NoElement, End}
+use Rattle.element_words.specs.declared.Meant.TheVariants.{Element as Word}
 use Rattle.element_words.specs.Words.{sequences_from, word_head, meant_of, meant_at}
 use Rattle.element_words.proofs.Words.{words_read, words_refused}
 use Rattle.text_loops.specs.LawWords.{HereStands}

@@ -1,8 +1,6 @@
 -- The sequence reader's answer, taken apart: a sequence (sequence_whole), a refusal (sequence_stopped), the end (sequence_ended).
-use Prim.Native.Nat.{◌≤◌, ◌<◌}
 use mathlib.Core.Path.{sym, ◌∙◌}
 use native.Mathlib.Omega.{arith}
-use lib.ListN.{length}
 use Rattle.element_reading.proofs.Steps.{sequence_inside, sequence_whole, sequence_stopped, sequence_ended}
 use Rattle.element_reading.proofs.sequence_step.Goals as goal
 
