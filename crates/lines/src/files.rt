@@ -1,6 +1,10 @@
 // Whole files.
 ghost use Rattle.std.specs.Prelude.{◌≡◌, length};
-ghost use Rattle.io.specs.Counts.{IsPrefixLen};
+ghost use Rattle.std.specs.Io.{ReadsAtMost};
+
+use std::io::Read;
+use std::rt::Files;
+use std::{fs, io};
 
 // Room for the largest file.
 pub type Text = [u8; 400000];
@@ -12,16 +16,30 @@ pub fn buffer() -> Text
     [0; 400000]
 }
 
-// Puts what the file has, and answers how much that is: nothing where it cannot be read, which is then said to standard error.
-pub fn load(name: &[u8], out: &mut [u8]) -> usize
-    ensures { IsPrefixLen result out.new }
+// Reads until `out` is full or the input ends, and answers how many octets it put at the start of `out`.
+pub fn read_full<R: Read>(reader: &mut R, out: &mut [u8]) -> io::Result<usize>
+    ensures { ReadsAtMost result out.new }
 {
-    let fd = os::open_read(name);
-    if fd < 0 {
-        os::fail(name);
-        return 0;
+    let mut done = 0;
+    while done < out.len() {
+        let n = reader.read(&mut out[done..])?;
+        if n == 0 {
+            break;
+        }
+        done += n;
     }
-    let n = io::read_full(fd, out);
-    libc::close(fd);
-    n
+    Ok(done)
+}
+
+// Puts what the file has, and answers how much that is: nothing where it cannot be opened, which is then said to standard error.
+pub fn load<R: Files + Eprint>(rt: &R, name: &str, out: &mut [u8]) -> io::Result<usize>
+    ensures { ReadsAtMost result out.new }
+{
+    match fs::open(rt, name) {
+        Ok(mut file) => read_full(&mut file, out),
+        Err(error) => {
+            eprintln!(rt; "{name}: {error}")?;
+            Ok(0)
+        }
+    }
 }

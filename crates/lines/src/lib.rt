@@ -1,4 +1,5 @@
-// What the programs of vectors share: files run line by line, the fields of a line, answers as text, lent rooms, and what is printed.
+// What the programs share: whole files, and what is printed; of the programs of vectors: files run line by line, the fields of a line,
+// answers as text, and lent rooms.
 //
 // No public function has a `requires`. They are proved safe, and to end; what they read and print is tested by the programs.
 #![tactic(auto)]

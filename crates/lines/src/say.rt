@@ -1,9 +1,10 @@
 // What is printed, piece by piece, to standard output.
+use std::io;
 
-pub fn say(text: &[u8]) {
-    io::write_all(1, text);
+pub fn say(rt: &impl Print, text: &[u8]) -> io::Result<()> {
+    rt.write_all(text)
 }
 
-pub fn say_number(n: usize) {
-    io::print_decimal(1, n as u64);
+pub fn say_number(rt: &impl Print, n: usize) -> io::Result<()> {
+    rt.print(n)
 }

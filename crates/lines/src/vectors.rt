@@ -1,14 +1,16 @@
 // The vectors of a file, run line after line: a heading, then a line each, with the answer expected from the heading's field
 // `answer` on. A program keeps the loop, `while tally.at < tally.end`, and its own call.
-ghost use Rattle.std.specs.Prelude.{◌-◌, ◌≤◌, length};
+ghost use Rattle.std.specs.Prelude.{◌-◌, ◌≤◌, IfOk, length};
 
 use crate::fields::{field, part, rest};
 use crate::files::{Text, load};
 use crate::say::{say, say_number};
+use std::io;
+use std::rt::Files;
 
 // Where the next line begins, where the file ends, which field the answer begins with, and how many lines were answered right
 // and wrong.
-#[derive(Drop)]
+#[derive(Clone, Copy)]
 pub struct Tally {
     pub at: usize,
     pub end: usize,
@@ -48,16 +50,16 @@ fn answer_in(heading: &[u8]) -> usize {
 }
 
 // Reads the file, and passes its heading.
-pub fn begin(name: &[u8], text: &mut Text) -> Tally {
-    let end = load(name, text);
+pub fn begin<R: Files + Eprint>(rt: &R, name: &str, text: &mut Text) -> io::Result<Tally> {
+    let end = load(rt, name, text)?;
     let heading = part(text, 0, b'\n');
-    Tally {
+    Ok(Tally {
         at: heading.len() + 1,
         end,
         answer: answer_in(heading),
         right: 0,
         wrong: 0,
-    }
+    })
 }
 
 // The line from `at` on of a file that ends at `end`.
@@ -92,7 +94,7 @@ pub fn line_of(text: &Text, tally: Tally) -> &[u8] {
 // No file has so many lines that a count wraps.
 fn more_if(count: usize, counts: bool) -> usize {
     if counts {
-        return std::num::wrapping_add_usize(count, 1);
+        return count.wrapping_add(1);
     }
     count
 }
@@ -110,41 +112,49 @@ pub fn pass(text: &Text, tally: Tally, is_right: bool) -> Tally
     }
 }
 
-fn say_wrong(line: &[u8], ours: &[u8]) {
-    say(line);
-    say(b"; ours ");
-    say(ours);
-    say(b"\n");
+fn say_wrong(rt: &impl Print, line: &[u8], ours: &[u8]) -> io::Result<()> {
+    say(rt, line)?;
+    say(rt, b"; ours ")?;
+    say(rt, ours)?;
+    say(rt, b"\n")
 }
 
 // Whether the first `n` octets of ours are just those expected; printed with the line where not, if that is to be shown.
-fn is_expected(ours: &[u8], n: usize, expected: &[u8], line: &[u8], shown: bool) -> bool {
+fn is_expected(
+    rt: &impl Print,
+    ours: &[u8],
+    n: usize,
+    expected: &[u8],
+    line: &[u8],
+    shown: bool,
+) -> io::Result<bool> {
     if ours.len() < n {
-        return false;
+        return Ok(false);
     }
     if is_same(&ours[0..n], expected) {
-        return true;
+        return Ok(true);
     }
     if shown {
-        say_wrong(line, &ours[0..n]);
+        say_wrong(rt, line, &ours[0..n])?;
     }
-    false
+    Ok(false)
 }
 
 // The same, by whether the first `n` octets of ours are just the answer expected. The first ten that are not are shown.
-pub fn judge(text: &Text, tally: Tally, ours: &[u8], n: usize) -> Tally
-    ensures { result.end - result.at ≤ tally.end - tally.at - 1 }
+pub fn judge(rt: &impl Print, text: &Text, tally: Tally, ours: &[u8], n: usize) -> io::Result<Tally>
+    ensures { IfOk result (λ past. past.end - past.at ≤ tally.end - tally.at - 1) }
 {
     let line = line_of(text, tally);
-    let is_right = is_expected(ours, n, rest(line, tally.answer), line, tally.wrong < 10);
-    pass(text, tally, is_right)
+    let expected = rest(line, tally.answer);
+    let is_right = is_expected(rt, ours, n, expected, line, tally.wrong < 10)?;
+    Ok(pass(text, tally, is_right))
 }
 
-pub fn say_totals(name: &[u8], tally: Tally) {
-    say(name);
-    say(b": ");
-    say_number(std::num::wrapping_add_usize(tally.right, tally.wrong));
-    say(b" vectors, ");
-    say_number(tally.wrong);
-    say(b" wrong\n");
+pub fn say_totals(rt: &impl Print, name: &[u8], tally: Tally) -> io::Result<()> {
+    say(rt, name)?;
+    say(rt, b": ")?;
+    say_number(rt, tally.right.wrapping_add(tally.wrong))?;
+    say(rt, b" vectors, ")?;
+    say_number(rt, tally.wrong)?;
+    say(rt, b" wrong\n")
 }

@@ -1,6 +1,8 @@
 // Lists the TLX case on standard input.
 #![tactic(auto)]
 
-fn main() {
-    listing::list_from(0);
+use std::io;
+
+fn main(rt: HostRuntime) -> io::Result<()> {
+    listing::list_from(&rt, &mut rt.stdin())
 }

@@ -9,9 +9,10 @@ use lines::say::{say, say_number};
 use say::{say_code_point, say_form, say_found, say_octet, say_sort, say_spelling};
 use sorts::{Form, FormFound, Sort};
 use spelling::Spelling;
+use std::io;
 
 // The tables that are printed for each form, entry by entry.
-#[derive(Drop)]
+#[derive(Clone, Copy)]
 enum Table {
     Sorts,
     Shifted,
@@ -29,45 +30,45 @@ fn entries_of(table: Table) -> u32 {
     }
 }
 
-fn print_form(number: u32) {
-    say(b"form ");
-    say_number(number as usize);
-    say(b" =");
+fn print_form(rt: &impl Print, number: u32) -> io::Result<()> {
+    say(rt, b"form ")?;
+    say_number(rt, number as usize)?;
+    say(rt, b" =")?;
     let found = sorts::form_of(number);
     match found {
-        FormFound::Is(form) => say_form(form),
-        FormFound::Nothing => say(b" nothing"),
+        FormFound::Is(form) => say_form(rt, form)?,
+        FormFound::Nothing => say(rt, b" nothing")?,
     }
-    say(b"\n");
+    say(rt, b"\n")
 }
 
-fn print_sort(form: Form, octet: u8) {
-    say(b"sort");
-    say_form(form);
-    say_octet(octet);
-    say(b" =");
-    say_sort(sorts::sort_in(form, octet));
-    say(b"\n");
+fn print_sort(rt: &impl Print, form: Form, octet: u8) -> io::Result<()> {
+    say(rt, b"sort")?;
+    say_form(rt, form)?;
+    say_octet(rt, octet)?;
+    say(rt, b" =")?;
+    say_sort(rt, sorts::sort_in(form, octet))?;
+    say(rt, b"\n")
 }
 
-fn print_shifted(form: Form, octet: u8) {
-    say(b"shifted");
-    say_form(form);
-    say_octet(octet);
-    say(b" =");
-    say_sort(sorts::sort_shifted(form, octet));
-    say(b"\n");
+fn print_shifted(rt: &impl Print, form: Form, octet: u8) -> io::Result<()> {
+    say(rt, b"shifted")?;
+    say_form(rt, form)?;
+    say_octet(rt, octet)?;
+    say(rt, b" =")?;
+    say_sort(rt, sorts::sort_shifted(form, octet))?;
+    say(rt, b"\n")
 }
 
 // The octets before a follower, C0 to CF: form 2 has them as 40 to 4F after SS2.
-fn say_first(form: Form, row: u8) {
+fn say_first(rt: &impl Print, form: Form, row: u8) -> io::Result<()> {
     match form {
-        Form::Eight => say_octet(0xC0 + row % 16),
+        Form::Eight => say_octet(rt, 0xC0 + row % 16),
         Form::Seven => {
-            say_octet(0x19);
-            say_octet(0x40 + row % 16);
+            say_octet(rt, 0x19)?;
+            say_octet(rt, 0x40 + row % 16)
         }
-        Form::Basic => say_octet(0xC0 + row % 16),
+        Form::Basic => say_octet(rt, 0xC0 + row % 16),
     }
 }
 
@@ -89,90 +90,91 @@ fn follower_at(column: u8) -> u8 {
 }
 
 // What the first octet is, where it is no mark: then it begins no pair.
-fn say_paired(first: Sort, follower: u8) {
+fn say_paired(rt: &impl Print, first: Sort, follower: u8) -> io::Result<()> {
     match first {
-        Sort::Mark(mark) => say_found(squares::paired(mark, follower)),
-        _ => say_sort(first),
+        Sort::Mark(mark) => say_found(rt, squares::paired(mark, follower)),
+        _ => say_sort(rt, first),
     }
 }
 
-fn print_pair(form: Form, row: u8, follower: u8) {
-    say(b"pair");
-    say_form(form);
-    say_first(form, row);
-    say_octet(follower);
-    say(b" =");
-    say_paired(first_sort(form, row), follower);
-    say(b"\n");
+fn print_pair(rt: &impl Print, form: Form, row: u8, follower: u8) -> io::Result<()> {
+    say(rt, b"pair")?;
+    say_form(rt, form)?;
+    say_first(rt, form, row)?;
+    say_octet(rt, follower)?;
+    say(rt, b" =")?;
+    say_paired(rt, first_sort(form, row), follower)?;
+    say(rt, b"\n")
 }
 
-fn print_spelling(form: Form, c: u32) {
-    say(b"spell");
-    say_form(form);
-    say_code_point(c);
-    say(b" =");
-    say_spelling(spelling::spell_in(form, c));
-    say(b"\n");
+fn print_spelling(rt: &impl Print, form: Form, c: u32) -> io::Result<()> {
+    say(rt, b"spell")?;
+    say_form(rt, form)?;
+    say_code_point(rt, c)?;
+    say(rt, b" =")?;
+    say_spelling(rt, spelling::spell_in(form, c))?;
+    say(rt, b"\n")
 }
 
 // Most code points have no spelling, and then there is no line.
-fn print_if_spelt(form: Form, c: u32) {
+fn print_if_spelt(rt: &impl Print, form: Form, c: u32) -> io::Result<()> {
     let spelling = spelling::spell_in(form, c);
     if let Spelling::Unspelt = spelling {
-        return;
+        return Ok(());
     }
-    print_spelling(form, c);
+    print_spelling(rt, form, c)
 }
 
-fn print_entry(table: Table, form: Form, n: u32) {
+fn print_entry(rt: &impl Print, table: Table, form: Form, n: u32) -> io::Result<()> {
     match table {
-        Table::Sorts => print_sort(form, (n % 256) as u8),
-        Table::Shifted => print_shifted(form, (n % 256) as u8),
-        Table::Pairs => print_pair(form, (n / 53 % 16) as u8, follower_at((n % 53) as u8)),
-        Table::Spellings => print_if_spelt(form, n),
+        Table::Sorts => print_sort(rt, form, (n % 256) as u8),
+        Table::Shifted => print_shifted(rt, form, (n % 256) as u8),
+        Table::Pairs => print_pair(rt, form, (n / 53 % 16) as u8, follower_at((n % 53) as u8)),
+        Table::Spellings => print_if_spelt(rt, form, n),
     }
 }
 
-fn print_table(table: Table, form: Form) {
+fn print_table(rt: &impl Print, table: Table, form: Form) -> io::Result<()> {
     let count = entries_of(table);
     let mut n = 0;
     while n < count {
-        print_entry(table, form, n);
+        print_entry(rt, table, form, n)?;
         n += 1;
     }
+    Ok(())
 }
 
-fn print_in_each_form(table: Table) {
-    print_table(table, Form::Eight);
-    print_table(table, Form::Seven);
-    print_table(table, Form::Basic);
+fn print_in_each_form(rt: &impl Print, table: Table) -> io::Result<()> {
+    print_table(rt, table, Form::Eight)?;
+    print_table(rt, table, Form::Seven)?;
+    print_table(rt, table, Form::Basic)
 }
 
 // Past the last code point: no form spells them.
-fn print_unspelt(form: Form) {
-    print_spelling(form, 0x110000);
-    print_spelling(form, 0xFFFFFFFF);
+fn print_unspelt(rt: &impl Print, form: Form) -> io::Result<()> {
+    print_spelling(rt, form, 0x110000)?;
+    print_spelling(rt, form, 0xFFFFFFFF)
 }
 
-fn main() {
-    print_form(0);
-    print_form(1);
-    print_form(2);
-    print_form(3);
-    print_form(4);
-    print_form(257);
-    print_form(4294967295);
-    print_in_each_form(Table::Sorts);
-    print_in_each_form(Table::Shifted);
-    print_in_each_form(Table::Pairs);
-    print_in_each_form(Table::Spellings);
-    print_unspelt(Form::Eight);
-    print_unspelt(Form::Seven);
-    print_unspelt(Form::Basic);
-    peers::print_peer(b"glibc_T61.csv", Form::Basic);
-    peers::print_peer(b"glibc_ISO6937.csv", Form::Eight);
-    peers::print_peer(b"glibc_ISO6937-2.csv", Form::Eight);
-    peers::print_peer(b"wireshark_T61.csv", Form::Basic);
-    peers::print_peer(b"openldap_T61.csv", Form::Basic);
-    peers::print_peer(b"zvbi_teletext_G2.csv", Form::Eight);
+fn main(rt: HostRuntime) -> io::Result<()> {
+    print_form(&rt, 0)?;
+    print_form(&rt, 1)?;
+    print_form(&rt, 2)?;
+    print_form(&rt, 3)?;
+    print_form(&rt, 4)?;
+    print_form(&rt, 257)?;
+    print_form(&rt, 4294967295)?;
+    print_in_each_form(&rt, Table::Sorts)?;
+    print_in_each_form(&rt, Table::Shifted)?;
+    print_in_each_form(&rt, Table::Pairs)?;
+    print_in_each_form(&rt, Table::Spellings)?;
+    print_unspelt(&rt, Form::Eight)?;
+    print_unspelt(&rt, Form::Seven)?;
+    print_unspelt(&rt, Form::Basic)?;
+    peers::print_peer(&rt, "glibc_T61.csv", Form::Basic)?;
+    peers::print_peer(&rt, "glibc_ISO6937.csv", Form::Eight)?;
+    peers::print_peer(&rt, "glibc_ISO6937-2.csv", Form::Eight)?;
+    peers::print_peer(&rt, "wireshark_T61.csv", Form::Basic)?;
+    peers::print_peer(&rt, "openldap_T61.csv", Form::Basic)?;
+    peers::print_peer(&rt, "zvbi_teletext_G2.csv", Form::Eight)
 }

@@ -7,10 +7,12 @@ use lines::files::buffer;
 use lines::say::{say, say_number};
 use lines::vectors::{begin, line_of, pass};
 use sorts::{Form, Found, Sort};
+use std::io;
+use std::rt::Files;
 
 // What we read where the octets stand alone. A control is its own number; a mark alone is refused,
 // since the input ends inside it, and so is the start of a sequence.
-#[derive(Drop)]
+#[derive(Clone, Copy)]
 enum Reading {
     Char(u32),
     Underlined(u32),
@@ -63,14 +65,14 @@ fn read_octets(form: Form, octets: &[u8]) -> Reading {
     read_two(form, first, (numbers[1] % 256) as u8)
 }
 
-fn say_reading(reading: Reading) {
+fn say_reading(rt: &impl Print, reading: Reading) -> io::Result<()> {
     match reading {
-        Reading::Char(c) => say_code_point(c),
+        Reading::Char(c) => say_code_point(rt, c),
         Reading::Underlined(c) => {
-            say(b" underlined");
-            say_code_point(c);
+            say(rt, b" underlined")?;
+            say_code_point(rt, c)
         }
-        Reading::Refused => say(b" refused"),
+        Reading::Refused => say(rt, b" refused"),
     }
 }
 
@@ -95,49 +97,71 @@ fn is_same(theirs: &[u8], ours: Reading) -> bool {
     }
 }
 
-fn print_difference(name: &[u8], octets: &[u8], theirs: &[u8], ours: Reading) {
-    say(b"peer ");
-    say(name);
-    say(b" ");
-    say(octets);
-    say(b" = theirs ");
-    say(theirs);
-    say(b", ours");
-    say_reading(ours);
-    say(b"\n");
+fn print_difference(
+    rt: &impl Print,
+    name: &[u8],
+    octets: &[u8],
+    theirs: &[u8],
+    ours: Reading,
+) -> io::Result<()> {
+    say(rt, b"peer ")?;
+    say(rt, name)?;
+    say(rt, b" ")?;
+    say(rt, octets)?;
+    say(rt, b" = theirs ")?;
+    say(rt, theirs)?;
+    say(rt, b", ours")?;
+    say_reading(rt, ours)?;
+    say(rt, b"\n")
 }
 
 // Whether the line's answer is ours, printed where it is not.
-fn compare(name: &[u8], form: Form, octets: &[u8], theirs: &[u8]) -> bool {
+fn compare(
+    rt: &impl Print,
+    name: &[u8],
+    form: Form,
+    octets: &[u8],
+    theirs: &[u8],
+) -> io::Result<bool> {
     let ours = read_octets(form, octets);
     let same = is_same(theirs, ours);
     if !same {
-        print_difference(name, octets, theirs, ours);
+        print_difference(rt, name, octets, theirs, ours)?;
     }
-    same
+    Ok(same)
 }
 
 // Some of the files end a line with CR and LF.
-fn compare_line(name: &[u8], form: Form, line: &[u8]) -> bool {
-    compare(name, form, field(line, 0), part(rest(line, 1), 0, b'\r'))
+fn compare_line(rt: &impl Print, name: &[u8], form: Form, line: &[u8]) -> io::Result<bool> {
+    compare(
+        rt,
+        name,
+        form,
+        field(line, 0),
+        part(rest(line, 1), 0, b'\r'),
+    )
 }
 
-fn print_totals(name: &[u8], agree: usize, differ: usize) {
-    say(b"peer ");
-    say(name);
-    say(b" agree ");
-    say_number(agree);
-    say(b" differ ");
-    say_number(differ);
-    say(b"\n");
+fn print_totals(rt: &impl Print, name: &[u8], agree: usize, differ: usize) -> io::Result<()> {
+    say(rt, b"peer ")?;
+    say(rt, name)?;
+    say(rt, b" agree ")?;
+    say_number(rt, agree)?;
+    say(rt, b" differ ")?;
+    say_number(rt, differ)?;
+    say(rt, b"\n")
 }
 
-pub(crate) fn print_peer(name: &[u8], form: Form) {
+pub(crate) fn print_peer(
+    rt: &(impl Files + Print + Eprint),
+    name: &str,
+    form: Form,
+) -> io::Result<()> {
     let mut text = buffer();
-    let mut tally = begin(name, &mut text);
+    let mut tally = begin(rt, name, &mut text)?;
     while tally.at < tally.end {
-        let same = compare_line(name, form, line_of(&text, tally));
+        let same = compare_line(rt, name.as_bytes(), form, line_of(&text, tally))?;
         tally = pass(&text, tally, same);
     }
-    print_totals(name, tally.right, tally.wrong);
+    print_totals(rt, name.as_bytes(), tally.right, tally.wrong)
 }

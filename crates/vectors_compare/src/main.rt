@@ -11,6 +11,8 @@ use lines::fields::{field, number_in, octets_in};
 use lines::files::buffer;
 use lines::room::put_octets;
 use lines::vectors::{begin, judge, line_of, say_totals};
+use std::io;
+use std::rt::Files;
 
 fn put_comparison(out: &mut [u8], c: Comparison) -> usize {
     let four = put_numbers(out, 0, c.answer);
@@ -40,39 +42,39 @@ fn answer(out: &mut [u8], line: &[u8]) -> usize {
     put_compared(out, form, &first[..n], &second[..m])
 }
 
-fn run_file(name: &[u8]) {
+fn run_file(rt: &(impl Files + Print + Eprint), name: &str) -> io::Result<()> {
     let mut text = buffer();
-    let mut tally = begin(name, &mut text);
+    let mut tally = begin(rt, name, &mut text)?;
     while tally.at < tally.end {
         let mut ours = [0; 1024];
         let n = answer(&mut ours, line_of(&text, tally));
-        tally = judge(&text, tally, &ours, n);
+        tally = judge(rt, &text, tally, &ours, n)?;
     }
-    say_totals(name, tally);
+    say_totals(rt, name.as_bytes(), tally)
 }
 
-fn main() {
-    run_file(b"respelt_1.csv");
-    run_file(b"respelt_2.csv");
-    run_file(b"respelt_3.csv");
-    run_file(b"changed_1.csv");
-    run_file(b"changed_2.csv");
-    run_file(b"changed_3.csv");
-    run_file(b"ends_1.csv");
-    run_file(b"ends_2.csv");
-    run_file(b"ends_3.csv");
-    run_file(b"near_1.csv");
-    run_file(b"near_2.csv");
-    run_file(b"near_3.csv");
-    run_file(b"refused_1.csv");
-    run_file(b"refused_2.csv");
-    run_file(b"refused_3.csv");
-    run_file(b"damaged_1.csv");
-    run_file(b"damaged_2.csv");
-    run_file(b"damaged_3.csv");
-    run_file(b"joined_1.csv");
-    run_file(b"joined_2.csv");
-    run_file(b"joined_3.csv");
-    run_file(b"upper.csv");
-    run_file(b"form.csv");
+fn main(rt: HostRuntime) -> io::Result<()> {
+    run_file(&rt, "respelt_1.csv")?;
+    run_file(&rt, "respelt_2.csv")?;
+    run_file(&rt, "respelt_3.csv")?;
+    run_file(&rt, "changed_1.csv")?;
+    run_file(&rt, "changed_2.csv")?;
+    run_file(&rt, "changed_3.csv")?;
+    run_file(&rt, "ends_1.csv")?;
+    run_file(&rt, "ends_2.csv")?;
+    run_file(&rt, "ends_3.csv")?;
+    run_file(&rt, "near_1.csv")?;
+    run_file(&rt, "near_2.csv")?;
+    run_file(&rt, "near_3.csv")?;
+    run_file(&rt, "refused_1.csv")?;
+    run_file(&rt, "refused_2.csv")?;
+    run_file(&rt, "refused_3.csv")?;
+    run_file(&rt, "damaged_1.csv")?;
+    run_file(&rt, "damaged_2.csv")?;
+    run_file(&rt, "damaged_3.csv")?;
+    run_file(&rt, "joined_1.csv")?;
+    run_file(&rt, "joined_2.csv")?;
+    run_file(&rt, "joined_3.csv")?;
+    run_file(&rt, "upper.csv")?;
+    run_file(&rt, "form.csv")
 }

@@ -20,10 +20,12 @@ use lines::files::buffer;
 use lines::vectors::{begin, judge, line_of, say_totals};
 use sorts::Form;
 use spelt::put_spelling;
+use std::io;
+use std::rt::Files;
 use words::put_element;
 
 // What the lines of a file ask.
-#[derive(Drop)]
+#[derive(Clone, Copy)]
 enum Asked {
     Reading(Form),
     Words,
@@ -101,28 +103,28 @@ fn answer(out: &mut [u8], asked: Asked, line: &[u8]) -> usize {
     }
 }
 
-fn run_file(name: &[u8], asked: Asked) {
+fn run_file(rt: &(impl Files + Print + Eprint), name: &str, asked: Asked) -> io::Result<()> {
     let mut text = buffer();
-    let mut tally = begin(name, &mut text);
+    let mut tally = begin(rt, name, &mut text)?;
     while tally.at < tally.end {
         let mut ours = [0; 256];
         let n = answer(&mut ours, asked, line_of(&text, tally));
-        tally = judge(&text, tally, &ours, n);
+        tally = judge(rt, &text, tally, &ours, n)?;
     }
-    say_totals(name, tally);
+    say_totals(rt, name.as_bytes(), tally)
 }
 
-fn main() {
-    run_file(b"read_1.csv", Asked::Reading(Form::Eight));
-    run_file(b"read_2.csv", Asked::Reading(Form::Seven));
-    run_file(b"read_3.csv", Asked::Reading(Form::Basic));
-    run_file(b"sequences.csv", Asked::Reading(Form::Basic));
-    run_file(b"spelt_sequences.csv", Asked::Reading(Form::Basic));
-    run_file(b"points.csv", Asked::Reading(Form::Basic));
-    run_file(b"upper_points.csv", Asked::Reading(Form::Basic));
-    run_file(b"mixed_points.csv", Asked::Reading(Form::Basic));
-    run_file(b"upper_sequences.csv", Asked::Reading(Form::Basic));
-    run_file(b"mixed_sequences.csv", Asked::Reading(Form::Basic));
-    run_file(b"characters.csv", Asked::Words);
-    run_file(b"words.csv", Asked::Words);
+fn main(rt: HostRuntime) -> io::Result<()> {
+    run_file(&rt, "read_1.csv", Asked::Reading(Form::Eight))?;
+    run_file(&rt, "read_2.csv", Asked::Reading(Form::Seven))?;
+    run_file(&rt, "read_3.csv", Asked::Reading(Form::Basic))?;
+    run_file(&rt, "sequences.csv", Asked::Reading(Form::Basic))?;
+    run_file(&rt, "spelt_sequences.csv", Asked::Reading(Form::Basic))?;
+    run_file(&rt, "points.csv", Asked::Reading(Form::Basic))?;
+    run_file(&rt, "upper_points.csv", Asked::Reading(Form::Basic))?;
+    run_file(&rt, "mixed_points.csv", Asked::Reading(Form::Basic))?;
+    run_file(&rt, "upper_sequences.csv", Asked::Reading(Form::Basic))?;
+    run_file(&rt, "mixed_sequences.csv", Asked::Reading(Form::Basic))?;
+    run_file(&rt, "characters.csv", Asked::Words)?;
+    run_file(&rt, "words.csv", Asked::Words)
 }

@@ -6,7 +6,7 @@ use run::Answer;
 use serial::{Carry, Fed};
 
 // The carry that a call leaves, and the place after what is put of the call.
-#[derive(Drop)]
+#[derive(Clone, Copy)]
 struct Said {
     carry: Carry,
     next: usize,

@@ -16,9 +16,11 @@ use calls::{answer_calls, carry_in, put_fed};
 use lines::fields::{field, number_in};
 use lines::files::buffer;
 use lines::vectors::{begin, judge, line_of, say_totals};
+use std::io;
+use std::rt::Files;
 
 // What the lines of a file start with.
-#[derive(Drop)]
+#[derive(Clone, Copy)]
 enum Start {
     Form,
     Carry,
@@ -35,32 +37,32 @@ fn answer(out: &mut [u8], start: Start, line: &[u8]) -> usize {
     }
 }
 
-fn run_file(name: &[u8], start: Start) {
+fn run_file(rt: &(impl Files + Print + Eprint), name: &str, start: Start) -> io::Result<()> {
     let mut text = buffer();
-    let mut tally = begin(name, &mut text);
+    let mut tally = begin(rt, name, &mut text)?;
     while tally.at < tally.end {
         let mut ours = [0; 16384];
         let n = answer(&mut ours, start, line_of(&text, tally));
-        tally = judge(&text, tally, &ours, n);
+        tally = judge(rt, &text, tally, &ours, n)?;
     }
-    say_totals(name, tally);
+    say_totals(rt, name.as_bytes(), tally)
 }
 
-fn main() {
-    run_file(b"cut_1.csv", Start::Form);
-    run_file(b"cut_2.csv", Start::Form);
-    run_file(b"cut_3.csv", Start::Form);
-    run_file(b"octet_1.csv", Start::Form);
-    run_file(b"octet_2.csv", Start::Form);
-    run_file(b"octet_3.csv", Start::Form);
-    run_file(b"fault_1.csv", Start::Form);
-    run_file(b"fault_2.csv", Start::Form);
-    run_file(b"fault_3.csv", Start::Form);
-    run_file(b"room_1.csv", Start::Form);
-    run_file(b"room_2.csv", Start::Form);
-    run_file(b"room_3.csv", Start::Form);
-    run_file(b"upper.csv", Start::Form);
-    run_file(b"form.csv", Start::Form);
-    run_file(b"carry.csv", Start::Carry);
-    run_file(b"respelled.csv", Start::Carry);
+fn main(rt: HostRuntime) -> io::Result<()> {
+    run_file(&rt, "cut_1.csv", Start::Form)?;
+    run_file(&rt, "cut_2.csv", Start::Form)?;
+    run_file(&rt, "cut_3.csv", Start::Form)?;
+    run_file(&rt, "octet_1.csv", Start::Form)?;
+    run_file(&rt, "octet_2.csv", Start::Form)?;
+    run_file(&rt, "octet_3.csv", Start::Form)?;
+    run_file(&rt, "fault_1.csv", Start::Form)?;
+    run_file(&rt, "fault_2.csv", Start::Form)?;
+    run_file(&rt, "fault_3.csv", Start::Form)?;
+    run_file(&rt, "room_1.csv", Start::Form)?;
+    run_file(&rt, "room_2.csv", Start::Form)?;
+    run_file(&rt, "room_3.csv", Start::Form)?;
+    run_file(&rt, "upper.csv", Start::Form)?;
+    run_file(&rt, "form.csv", Start::Form)?;
+    run_file(&rt, "carry.csv", Start::Carry)?;
+    run_file(&rt, "respelled.csv", Start::Carry)
 }

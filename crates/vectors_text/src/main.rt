@@ -20,9 +20,11 @@ use lines::fields::{field, number_in};
 use lines::files::buffer;
 use lines::vectors::{begin, judge, line_of, say_totals};
 use peers::compare_file;
+use std::io;
+use std::rt::Files;
 
 // What the lines of a file ask.
-#[derive(Drop)]
+#[derive(Clone, Copy)]
 enum Asked {
     Reading,
     Writing,
@@ -47,32 +49,32 @@ fn answer(out: &mut [u8], asked: Asked, line: &[u8]) -> usize {
     }
 }
 
-fn run_file(name: &[u8], asked: Asked) {
+fn run_file(rt: &(impl Files + Print + Eprint), name: &str, asked: Asked) -> io::Result<()> {
     let mut text = buffer();
-    let mut tally = begin(name, &mut text);
+    let mut tally = begin(rt, name, &mut text)?;
     while tally.at < tally.end {
         let mut ours = [0; 8192];
         let n = answer(&mut ours, asked, line_of(&text, tally));
-        tally = judge(&text, tally, &ours, n);
+        tally = judge(rt, &text, tally, &ours, n)?;
     }
-    say_totals(name, tally);
+    say_totals(rt, name.as_bytes(), tally)
 }
 
-fn main() {
-    run_file(b"read_1.csv", Asked::Reading);
-    run_file(b"read_2.csv", Asked::Reading);
-    run_file(b"read_3.csv", Asked::Reading);
-    run_file(b"write_1.csv", Asked::Writing);
-    run_file(b"write_2.csv", Asked::Writing);
-    run_file(b"write_3.csv", Asked::Writing);
-    run_file(b"convert_1.csv", Asked::Converting);
-    run_file(b"convert_2.csv", Asked::Converting);
-    run_file(b"convert_3.csv", Asked::Converting);
-    run_file(b"respelled_1.csv", Asked::Converting);
-    run_file(b"respelled_2.csv", Asked::Converting);
-    run_file(b"respelled_3.csv", Asked::Converting);
-    run_file(b"element.csv", Asked::OneElement);
-    run_file(b"into.csv", Asked::OneIntoWords);
-    compare_file(b"glibc_1.csv", 1);
-    compare_file(b"glibc_3.csv", 3);
+fn main(rt: HostRuntime) -> io::Result<()> {
+    run_file(&rt, "read_1.csv", Asked::Reading)?;
+    run_file(&rt, "read_2.csv", Asked::Reading)?;
+    run_file(&rt, "read_3.csv", Asked::Reading)?;
+    run_file(&rt, "write_1.csv", Asked::Writing)?;
+    run_file(&rt, "write_2.csv", Asked::Writing)?;
+    run_file(&rt, "write_3.csv", Asked::Writing)?;
+    run_file(&rt, "convert_1.csv", Asked::Converting)?;
+    run_file(&rt, "convert_2.csv", Asked::Converting)?;
+    run_file(&rt, "convert_3.csv", Asked::Converting)?;
+    run_file(&rt, "respelled_1.csv", Asked::Converting)?;
+    run_file(&rt, "respelled_2.csv", Asked::Converting)?;
+    run_file(&rt, "respelled_3.csv", Asked::Converting)?;
+    run_file(&rt, "element.csv", Asked::OneElement)?;
+    run_file(&rt, "into.csv", Asked::OneIntoWords)?;
+    compare_file(&rt, "glibc_1.csv", 1)?;
+    compare_file(&rt, "glibc_3.csv", 3)
 }

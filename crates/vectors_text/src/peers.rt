@@ -8,8 +8,10 @@ use lines::fields::{field, number_in, octets_in, words_in};
 use lines::files::buffer;
 use lines::say::{say, say_number};
 use lines::vectors::{begin, line_of, pass};
+use std::io;
+use std::rt::Files;
 
-#[derive(Drop)]
+#[derive(Clone, Copy)]
 enum Verdict {
     // word for word
     Same,
@@ -34,7 +36,7 @@ fn rank(verdict: Verdict) -> usize
 // Counts the verdict, by its rank. No file has so many texts that a count wraps.
 fn count(counts: &mut [usize; 4], verdict: Verdict) {
     let k = rank(verdict);
-    counts[k] = std::num::wrapping_add_usize(counts[k], 1);
+    counts[k] = counts[k].wrapping_add(1);
 }
 
 // The word of what the C library gave: its code point, or a control's word.
@@ -153,39 +155,44 @@ fn compare_line(form: u32, line: &[u8]) -> Verdict {
 }
 
 // The verdict on the line, which is shown where it is bad.
-fn judge_line(name: &[u8], form: u32, line: &[u8]) -> Verdict {
+fn judge_line(rt: &impl Print, name: &[u8], form: u32, line: &[u8]) -> io::Result<Verdict> {
     let verdict = compare_line(form, line);
     if let Verdict::Otherwise = verdict {
-        say(name);
-        say(b": otherwise: ");
-        say(line);
-        say(b"\n");
+        say(rt, name)?;
+        say(rt, b": otherwise: ")?;
+        say(rt, line)?;
+        say(rt, b"\n")?;
     }
-    verdict
+    Ok(verdict)
 }
 
-fn print_totals(name: &[u8], texts: usize, counts: &[usize; 4]) {
-    say(name);
-    say(b": ");
-    say_number(texts);
-    say(b" texts, ");
-    say_number(counts[0]);
-    say(b" the same, ");
-    say_number(counts[1]);
-    say(b" but for listed characters, ");
-    say_number(counts[2]);
-    say(b" up to a code listed as refused, ");
-    say_number(counts[3]);
-    say(b" otherwise\n");
+fn print_totals(rt: &impl Print, name: &[u8], texts: usize, counts: &[usize; 4]) -> io::Result<()> {
+    say(rt, name)?;
+    say(rt, b": ")?;
+    say_number(rt, texts)?;
+    say(rt, b" texts, ")?;
+    say_number(rt, counts[0])?;
+    say(rt, b" the same, ")?;
+    say_number(rt, counts[1])?;
+    say(rt, b" but for listed characters, ")?;
+    say_number(rt, counts[2])?;
+    say(rt, b" up to a code listed as refused, ")?;
+    say_number(rt, counts[3])?;
+    say(rt, b" otherwise\n")
 }
 
-pub(crate) fn compare_file(name: &[u8], form: u32) {
+pub(crate) fn compare_file(
+    rt: &(impl Files + Print + Eprint),
+    name: &str,
+    form: u32,
+) -> io::Result<()> {
     let mut text = buffer();
-    let mut tally = begin(name, &mut text);
+    let mut tally = begin(rt, name, &mut text)?;
     let mut counts = [0; 4];
     while tally.at < tally.end {
-        count(&mut counts, judge_line(name, form, line_of(&text, tally)));
+        let verdict = judge_line(rt, name.as_bytes(), form, line_of(&text, tally))?;
+        count(&mut counts, verdict);
         tally = pass(&text, tally, true);
     }
-    print_totals(name, tally.right, &counts);
+    print_totals(rt, name.as_bytes(), tally.right, &counts)
 }

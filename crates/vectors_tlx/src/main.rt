@@ -16,9 +16,11 @@ mod runs;
 use calls::{answer_header, answer_page, answer_reading, answer_writing};
 use lines::files::buffer;
 use lines::vectors::{begin, judge, line_of, say_totals};
+use std::io;
+use std::rt::Files;
 
 // What the lines of a file ask.
-#[derive(Drop)]
+#[derive(Clone, Copy)]
 enum Asked {
     Reading,
     OnePage,
@@ -35,32 +37,37 @@ fn answer(out: &mut [u8], asked: Asked, is_long: bool, line: &[u8]) -> usize {
     }
 }
 
-fn run_file(name: &[u8], asked: Asked, is_long: bool) {
+fn run_file(
+    rt: &(impl Files + Print + Eprint),
+    name: &str,
+    asked: Asked,
+    is_long: bool,
+) -> io::Result<()> {
     let mut text = buffer();
-    let mut tally = begin(name, &mut text);
+    let mut tally = begin(rt, name, &mut text)?;
     while tally.at < tally.end {
         let mut ours = [0; 8192];
         let n = answer(&mut ours, asked, is_long, line_of(&text, tally));
-        tally = judge(&text, tally, &ours, n);
+        tally = judge(rt, &text, tally, &ours, n)?;
     }
-    say_totals(name, tally);
+    say_totals(rt, name.as_bytes(), tally)
 }
 
-fn main() {
-    run_file(b"read_1.csv", Asked::Reading, false);
-    run_file(b"read_2.csv", Asked::Reading, false);
-    run_file(b"read_3.csv", Asked::Reading, false);
-    run_file(b"page_1.csv", Asked::OnePage, false);
-    run_file(b"page_2.csv", Asked::OnePage, false);
-    run_file(b"page_3.csv", Asked::OnePage, false);
-    run_file(b"read_respelled.csv", Asked::Reading, false);
-    run_file(b"page_respelled.csv", Asked::OnePage, false);
-    run_file(b"header.csv", Asked::HeaderAlone, false);
-    run_file(b"write_1.csv", Asked::Writing, false);
-    run_file(b"write_2.csv", Asked::Writing, false);
-    run_file(b"write_3.csv", Asked::Writing, false);
-    run_file(b"write_refused.csv", Asked::Writing, false);
-    run_file(b"long_read.csv", Asked::Reading, true);
-    run_file(b"long_page.csv", Asked::OnePage, true);
-    run_file(b"long_write.csv", Asked::Writing, true);
+fn main(rt: HostRuntime) -> io::Result<()> {
+    run_file(&rt, "read_1.csv", Asked::Reading, false)?;
+    run_file(&rt, "read_2.csv", Asked::Reading, false)?;
+    run_file(&rt, "read_3.csv", Asked::Reading, false)?;
+    run_file(&rt, "page_1.csv", Asked::OnePage, false)?;
+    run_file(&rt, "page_2.csv", Asked::OnePage, false)?;
+    run_file(&rt, "page_3.csv", Asked::OnePage, false)?;
+    run_file(&rt, "read_respelled.csv", Asked::Reading, false)?;
+    run_file(&rt, "page_respelled.csv", Asked::OnePage, false)?;
+    run_file(&rt, "header.csv", Asked::HeaderAlone, false)?;
+    run_file(&rt, "write_1.csv", Asked::Writing, false)?;
+    run_file(&rt, "write_2.csv", Asked::Writing, false)?;
+    run_file(&rt, "write_3.csv", Asked::Writing, false)?;
+    run_file(&rt, "write_refused.csv", Asked::Writing, false)?;
+    run_file(&rt, "long_read.csv", Asked::Reading, true)?;
+    run_file(&rt, "long_page.csv", Asked::OnePage, true)?;
+    run_file(&rt, "long_write.csv", Asked::Writing, true)
 }

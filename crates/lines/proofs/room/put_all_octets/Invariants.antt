@@ -1,0 +1,10 @@
+-- `lines::room::put_all_octets` is safe and ends. The lent room keeps its length.
+-- The measure is what is left of the octets. Assumes nothing.
+use Rattle.std.proofs.Common.{◌≡◌, ◌-◌, length}
+use Rattle.lines.proofs.room.put_all_octets.Given as goal
+
+abbrev pub invariant-loop-i : goal.invariant-loop-i
+invariant-loop-i l = length l.out ≡ length l.initial.out
+
+abbrev pub decreases-loop-i : goal.decreases-loop-i
+decreases-loop-i l = length l.octets - l.i
