@@ -1,5 +1,4 @@
 -- What is left of the text reads as the whole does (the invariant), up to a final, a refusal or the end.
-use Prim.Native.Nat.{◌-◌}
 use mathlib.Core.Path.{sym, ◌∙◌}
 use Rattle.sequence_reading.proofs.Places.{none_left, no_sequence, reached_start, reached_more, reached_value, reached_last}
 use Rattle.sequence_reading.proofs.Places.{reached_bad, reached_end}

@@ -1,5 +1,4 @@
 -- Each test that fails rules the sequence out (not_fine); all that pass let it be (fine_test).
-use Prim.Native.Nat.{◌-◌}
 use mathlib.Core.Path.{sym}
 use mathlib.Core.Logic.{inl, inr, ⊎_elim}
 use borrow.Author.Count.{below_more}

@@ -1,5 +1,4 @@
 -- Value after value: what is written and what is left is the whole (Partly: partly_start, partly_more, partly_end).
-use Prim.Native.Nat.{◌-◌}
 use Rattle.run.proofs.Puts.{put_length, put_one}
 use Rattle.sequence_spelling.proofs.Puts.{partly_start, partly_room, partly_more, partly_end}
 use native.Mathlib.Omega.{arith}

@@ -1,5 +1,4 @@
 -- Value after value: what is counted and what is left is the whole (rest_step, rest_end).
-use Prim.Native.Nat.{◌-◌}
 use Rattle.sequence_spelling.proofs.Exactly.{rest_short}
 use Rattle.sequence_spelling.proofs.Puts.{rest_step, rest_end}
 use native.Mathlib.Omega.{arith}
