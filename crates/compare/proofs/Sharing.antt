@@ -237,13 +237,21 @@ shared_exchanged (x ∷ xs) (y ∷ ys) =
 
 -- ---- "spelled otherwise"
 
--- one number
+-- one number: of pieces that are equal,
+one_of : {ps qs rs ss : List (List ℕ)} {k l : ℕ} → Otherwise ps qs k → Otherwise rs ss l → ps ≡ rs → qs ≡ ss → k ≡ l
+one_of none none e g = refl
+one_of none (alike b) e g = cc
+one_of none (otherwise m b) e g = cc
+one_of (alike a) none e g = cc
+one_of (alike a) (alike b) e g = one_of a b (cc) (cc)
+one_of (alike a) (otherwise m b) e g = absurd (m (cc))
+one_of (otherwise n a) none e g = cc
+one_of (otherwise n a) (alike b) e g = absurd (n (cc))
+one_of (otherwise n a) (otherwise m b) e g = ap suc (one_of a b (cc) (cc))
+
+-- and so of the same
 pub one_otherwise : {ps qs : List (List ℕ)} {k l : ℕ} → Otherwise ps qs k → Otherwise ps qs l → k ≡ l
-one_otherwise none none = refl
-one_otherwise (alike a) (alike b) = one_otherwise a b
-one_otherwise (alike a) (otherwise n b) = absurd (n refl)
-one_otherwise (otherwise n a) (alike b) = absurd (n refl)
-one_otherwise (otherwise n a) (otherwise m b) = ap suc (one_otherwise a b)
+one_otherwise a b = one_of a b refl refl
 
 -- it is 0 exactly where all pieces are the same
 pub none_otherwise : {ps qs : List (List ℕ)} {k : ℕ} → Otherwise ps qs k → k ≡ 0 → ps ≡ qs

@@ -6,8 +6,6 @@ use mathlib.Core.Bool.{Bool, false}
 use mathlib.Core.List.{List, [], ◌∷◌}
 use native.Mathlib.Omega.{arith}
 use lib.ListN.{length, drop, get_or, length-append, length-drop, drop_of_length-le}
-use types.Run.{OneOf}
-use denote.Enum.Declared.{tag_of}
 use Rattle.run.specs.Head.{element}
 use Rattle.run.proofs.FromPlace.{at_place}
 use Rattle.sorts.specs.declared.Form.{Form}
@@ -23,9 +21,8 @@ use Rattle.element_words.specs.declared.Element.TheVariants.{One}
 use Rattle.element_reading.specs.declared.Step.{Step}
 use Rattle.element_reading.specs.declared.Step.TheVariants.{Element as Read}
 use Rattle.element_reading.specs.ElementHead.{head_in, head_sort, follower_head, pair_head, step_at}
-use Rattle.element_reading.specs.contracts.Step.{the_type}
 use Rattle.element_reading.proofs.Reader.{reads}
-use Rattle.text_loops.proofs.Steps.{here, graphic_here, step_refused}
+use Rattle.text_loops.proofs.Steps.{NotRead, here, graphic_here, step_refused}
 use Rattle.compare.specs.Walking.{Stands, SizeOf}
 
 module _ (f : Form) (text : List ℕ) (at : ℕ) where
@@ -69,7 +66,7 @@ module _ (f : Form) (text : List ℕ) (at : ℕ) where
         record { what = stands.what; here = stands.here ∙ ap (element stands.what) n }
 
     -- what is neither is read: an element stands there
-    pub never : (x : Step) → x ≡ step_at f text at → OneOf (1 ∷ 2 ∷ []) (tag_of the_type x) → ⊥
+    pub never : (x : Step) → x ≡ step_at f text at → NotRead x → ⊥
     never x q o =
         let r = step_refused f text at x q o within in
         let e = sym r.here ∙ stands.here in

@@ -2,7 +2,7 @@
 -- `comparison`, which the contracts cite (`ComparedPromise`, `ComparePromise`); that it is document 02's rows is proofs/Exactly,
 -- compared_exactly.
 -- Assumes nothing.
-use Prim.Native.Nat.{ℕ, ◌+◌}
+use Prim.Native.Nat.{ℕ}
 use mathlib.Core.Path.{◌≡◌, refl, sym, ap, ap₂, ◌∙◌, subst}
 use mathlib.Core.Logic.{◌↔◌}
 use mathlib.Core.List.{List, [], ◌∷◌, ◌++◌, map-append}
@@ -16,7 +16,7 @@ use Rattle.run.specs.Tagged.{untagged}
 use Rattle.run.specs.Grammar.{Run, done, more, RunOf}
 use Rattle.run.specs.Tally.{Apart}
 use Rattle.run.specs.declared.ReadAnswer.{ReadAnswer}
-use Rattle.run.specs.Answers.{answer, given}
+use Rattle.run.specs.Answers.{given}
 use Rattle.run.proofs.Outcomes as outcomes
 use Rattle.run.proofs.Outcomes.{run_by}
 use Rattle.sorts.specs.declared.Form.{Form}
@@ -39,7 +39,6 @@ use Rattle.compare.specs.Comparing.{shared, compared_in, comparison, part_of, fu
 use Rattle.compare.specs.Promises.{ComparePromise}
 use Rattle.compare.specs.TheoremWords.{SaysWhere, HandsBack, LiesIn}
 use Rattle.compare.proofs.Sharing.{elements_of, pieces_of, apart_differ, none_otherwise, all_alike}
-use Rattle.compare.proofs.Sharing.{differ}
 use Rattle.compare.proofs.Segments.{Beside, beside, its_run}
 use Rattle.compare.proofs.Meetings.{Met, meet, reads_whole, reads_whole', both_ended, Verdict, verdict}
 use Rattle.compare.proofs.Meetings.{row_differ, row_second_ends, row_first_ends}

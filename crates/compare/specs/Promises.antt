@@ -11,7 +11,7 @@ abbrev pub ComparedPromise : ℕ → List ℕ → List ℕ → Comparison → Ty
 ComparedPromise form first second r = r ≡ comparison form first second
 
 -- and the part that is handed back: its octets, and where it lies, are those of the text that the numbers say, from the place that they say
--- to its end. A lent slice (`RefT`) is where it lies, `ptr`, and what it holds, `now`.
+-- to its end. A lent slice (`Bor`) is where it lies, `ref_ptr`, and what it holds, `now`.
 abbrev pub ComparePromise : ℕ → Bor (List ℕ) → Bor (List ℕ) → List ℕ → ℕ × ℕ → Type 0
 ComparePromise form first second part at =
     let c = comparison form first.now second.now in

@@ -46,7 +46,7 @@ HandsBack c first second text place part =
 
 -- where such a part lies, of two lent texts: so many octets further on than the one that it is of
 abbrev pub LiesIn : Bor (List ℕ) → Bor (List ℕ) → ℕ → ℕ → ℕ × ℕ → Type 0
-LiesIn first second text place at = at ≡ further_on place (pick (eqb text 2) second.ptr first.ptr)
+LiesIn first second text place at = at ≡ further_on place (pick (eqb text 2) second.ref_ptr first.ref_ptr)
 
 -- ---- a refusal, by what reading each text by itself with room enough answers: the four numbers, and which text it was
 

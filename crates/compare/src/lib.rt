@@ -164,7 +164,7 @@ fn shared_at(
     second: &[u8],
     j: usize,
 ) -> Shared
-    requires codes_value { codes.now ≡ code_table form }
+    requires lent { codes.now ≡ code_table form }
     requires stands { Stands form (drop i first.now) × Stands form (drop j second.now) }
     ensures { result ≡ shared_here form (drop i first.now) (drop j second.now) }
 {
@@ -209,7 +209,7 @@ fn shared_at(
 
 // The walk over two accepted texts, up to where their meanings part or one of them ends.
 fn walk(form: Form, codes: &[u16; 256], first: &[u8], second: &[u8]) -> Shared
-    requires codes_value { codes.now ≡ code_table form }
+    requires lent { codes.now ≡ code_table form }
     requires read_through { ReadThrough form first.now × ReadThrough form second.now }
     ensures { result ≡ shared_in form first.now second.now }
 {

@@ -10,8 +10,6 @@ use native.Mathlib.Nat.{add_comm, zero-add}
 use lib.Dec.{eqb, leb}
 use lib.ListN.{length, take, drop, length-append, take-append-drop}
 use lib.Seq.{take-append_seam, take-append-le, drop-append-add, sets, length-sets}
-use types.Run.{OneOf}
-use denote.Enum.Declared.{tag_of}
 use borrow.Author.Tests.{leb-true, leb-false, eqb-true, ne_eqb}
 use Rattle.run.specs.Choice.{pick}
 use Rattle.run.specs.Head.{Head, element, refused, none, Outcome, accepted, refusal, join}
@@ -29,7 +27,6 @@ use Rattle.element_reading.specs.Grammar.{Spells, Refuses, CutShort}
 use Rattle.element_reading.specs.declared.Step.{Step}
 use Rattle.element_reading.specs.declared.Step.TheVariants.{Element as Read}
 use Rattle.element_reading.specs.ElementHead.{head_in, canonical_head, step_at}
-use Rattle.element_reading.specs.contracts.Step.{the_type}
 use Rattle.element_reading.proofs.Places.{reading_number}
 use Rattle.element_reading.proofs.Sizes.{words_few}
 use Rattle.element_reading.proofs.Reader.{reads, refuses_exactly_by}
@@ -37,7 +34,7 @@ use Rattle.element_reading.proofs.Deciding.{forty, unfinished, cut_exactly}
 use Rattle.text_loops.specs.declared.Measured.{Measured}
 use Rattle.text_loops.specs.Fronts.{read_in, measured, words_before, respelled_before, asked_for, step_answer_after}
 use Rattle.text_loops.proofs.Tallied.{told_here, told_stands, told_reads, tally_start, tally_turn, tally_end}
-use Rattle.text_loops.proofs.Steps.{step_refused, count_is_place}
+use Rattle.text_loops.proofs.Steps.{NotRead, step_refused, count_is_place}
 use Rattle.text_loops.specs.Promises.{ReadFrontPromise}
 use Rattle.text_reading.proofs.Respelled.{respelled_joined}
 use Rattle.open_elements.specs.OpenElements.{open_head, is_open}
@@ -305,7 +302,7 @@ first_told f s window w e next b q =
 
 -- and so does a refusal
 pub first_refused : (f : Form) (s window words : List ℕ) → window ≡ take 40 s → 0 < length window → (x : Step) → x ≡ step_at f window 0
-    → OneOf (1 ∷ 2 ∷ []) (tag_of the_type x) → {a : Answer} → a ≡ step_answer_after 0 x
+    → NotRead x → {a : Answer} → a ≡ step_answer_after 0 x
     → FrontOf f s words (record { answer = a; words = 0; respelled = 0 }) words
 first_refused f s window words w some x q o {a} e =
     let h = step_refused f window 0 x q o some in

@@ -55,8 +55,8 @@ pub fn gather(waiting: &[u8], piece: &[u8], from: usize, into: &mut [u8]) -> usi
 
 // An answer behind one element of `next` octets; accepted, of `count` words.
 fn behind_one(a: Answer, next: usize, count: usize) -> Answer
-    requires element_bound { a.element + 1 < 0x10000000000000000 }
-    requires next_bound { (a.place + next < 0x10000000000000000) × (a.count + next < 0x10000000000000000) }
+    requires element_fits { a.element + 1 < 0x10000000000000000 }
+    requires places_fit { (a.place + next < 0x10000000000000000) × (a.count + next < 0x10000000000000000) }
     ensures { result ≡ behind_one a next count }
 {
     if a.number == 0 {

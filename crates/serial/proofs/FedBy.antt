@@ -12,7 +12,7 @@ use lib.Seq.{drop-append_seam, take_all, sets, sets-eq, length-sets}
 use borrow.Author.Tests.{le-leb, lt-leb, leb-true, leb-false, eqb-true}
 use Rattle.run.specs.Choice.{pick}
 use Rattle.run.specs.Head.{Outcome, accepted, refusal}
-use Rattle.run.specs.Answers.{answer, short_room, over}
+use Rattle.run.specs.Answers.{short_room, over}
 use Rattle.run.specs.Put.{what_fits}
 use Rattle.run.proofs.Puts.{all_fit, none_fits}
 use Rattle.sorts.specs.declared.Form.{Form}

@@ -10,7 +10,7 @@ use lib.ListN.{length, take, drop, length-append, drop_of_length-le}
 use lib.Seq.{take-append_seam, drop-append_seam}
 use borrow.Author.Tests.{le-leb, leb-true, leb-false, eqb-true, eqb-false}
 use Rattle.run.specs.Choice.{pick}
-use Rattle.run.specs.Head.{element, Outcome, accepted, refusal}
+use Rattle.run.specs.Head.{Outcome, accepted, refusal}
 use Rattle.run.specs.Grammar.{RunOf}
 use Rattle.run.specs.declared.Answer.{Answer}
 use Rattle.run.specs.Answers.{answer, bare, short_room, given, over}
@@ -119,7 +119,7 @@ module _ {f : Form} {octets : List ℕ} {c : Carry} (h : Holds f octets c) where
   pub words_sofar : WordsUpToFault f octets (given words_of h.es)
   words_sofar =
       subst (λ (l : List ℕ). WordsUpToFault f l (given words_of h.es)) (sym h.whole)
-      (WordsUpToFault.words_of (upto h.run h.begun))
+      (WordsUpToFault.words_of_all (upto h.run h.begun))
 
 -- ---- one call
 
@@ -176,7 +176,7 @@ module _ {f : Form} {octets : List ℕ} {c : Carry} (h : Holds f octets c) (piec
         before = given words_of h.es;
         were = words_sofar h;
         are =
-            subst₂ (WordsUpToFault f) (sym now_whole) (given_append words_of h.es fs) (WordsUpToFault.words_of u);
+            subst₂ (WordsUpToFault f) (sym now_whole) (given_append words_of h.es fs) (WordsUpToFault.words_of_all u);
       }
 
   -- the numbers so far

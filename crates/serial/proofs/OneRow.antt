@@ -100,7 +100,7 @@ module _ (f : Form) (taken piece : List ℕ) (ended : Bool) (words : List ℕ) w
       roomy within n room ((accepted_exactly f so_far es).1 (ps, run))
       ∙ with_words _ (goes_respelled f so_far (GoesOn.finished run) counts) n
   row_told (FedRow.so_far {ws} within n room (GoesOn.unfinished {n = e} {p} {d} at) counts more) =
-      let w = words_are f so_far (WordsUpToFault.words_of (UpToFault.to_a_fault at)) in
+      let w = words_are f so_far (WordsUpToFault.words_of_all (UpToFault.to_a_fault at)) in
       let count : ℕ = length (words_before f so_far) in
       roomy within n room ((refused_exactly f so_far 4 e p d).1 at)
       ∙ ap

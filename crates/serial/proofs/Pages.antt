@@ -12,7 +12,6 @@ use lib.ListN.{length, take, drop, length-append}
 use lib.Seq.{take-append_seam}
 use borrow.Author.Tests.{le-leb, ne_eqb}
 use Rattle.run.specs.Choice.{one_of}
-use Rattle.run.specs.Head.{accepted}
 use Rattle.run.specs.Grammar.{RunOf}
 use Rattle.run.specs.Tally.{Apart}
 use Rattle.run.specs.declared.Answer.{Answer}
@@ -87,8 +86,11 @@ repeats_out ns t (Repeats.next {x} {xs} e h w r) =
 
 -- the last of them answers it too
 repeats_ends : {a b : ReadAnswer} {xs : List Call} → Repeats a xs → Ends xs b → b ≡ a
-repeats_ends (Repeats.next e h w r) (Ends.last t) = e
-repeats_ends (Repeats.next e h w r) (Ends.earlier t l) = repeats_ends r l
+repeats_ends r l = go l r
+  where
+    go : {a b : ReadAnswer} {xs : List Call} → Ends xs b → Repeats a xs → b ≡ a
+    go (Ends.last t) (Repeats.next e h w r) = e
+    go (Ends.earlier t l) (Repeats.next e h w r) = go l r
 
 -- no call follows the one that is told that the page ends
 nothing_follows : (x : Call) (xs : List Call) → OnlyLast (x ∷ xs) → x.ended ≡ true → xs ≡ []
@@ -144,8 +146,8 @@ new_words_lem {f} {octets} {piece} {ws} new =
 fault_words_stay : {f : Form} {s : List ℕ} {r n p d : ℕ} → ReadingFault f s r n p d → (r ≡ 4 → ⊥) → (u : List ℕ)
     → words_before f s ≡ words_before f (s ++ u)
 fault_words_stay {f} {s} at not-4 u =
-    words_are f s (WordsUpToFault.words_of (UpToFault.to_a_fault at))
-    ∙ sym (words_are f (s ++ u) (WordsUpToFault.words_of (UpToFault.to_a_fault (fault_stays at not-4 u))))
+    words_are f s (WordsUpToFault.words_of_all (UpToFault.to_a_fault at))
+    ∙ sym (words_are f (s ++ u) (WordsUpToFault.words_of_all (UpToFault.to_a_fault (fault_stays at not-4 u))))
 
 module _ {f : Form} {octets : List ℕ} {c d : Carry} (h : Holds f octets c) (x : Call) (xs : List Call)
     (p : FeedPromise c x.piece x.ended x.words x.fed x.after) (cs : Calls x.fed.carry xs d) where

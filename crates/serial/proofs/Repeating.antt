@@ -11,7 +11,7 @@ use borrow.Author.Tests.{le-leb, leb-true, eqb-true, eqb-false, ne_eqb}
 use Rattle.run.specs.Choice.{pick}
 use Rattle.run.specs.declared.Answer.{Answer}
 use Rattle.run.specs.declared.ReadAnswer.{ReadAnswer}
-use Rattle.run.specs.Answers.{answer, bare, short_room}
+use Rattle.run.specs.Answers.{bare, short_room}
 use Rattle.sorts.specs.declared.Form.{Form}
 use Rattle.sorts.specs.declared.FormFound.{FormFound}
 use Rattle.sorts.specs.declared.FormFound.TheVariants.{Is, Nothing}

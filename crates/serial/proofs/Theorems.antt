@@ -164,7 +164,7 @@ module _ {form : ℕ} {f : Form} (is : form_of form ≡ Is f) {calls : List Call
   pub handed_out_lem : OnlyLast (without (9 ∷ []) calls) → WordsUpToFault f (taken calls) (handed_out calls)
   unfolding given
   handed_out_lem only =
-      let none : words_before f [] ≡ [] = words_are f [] (WordsUpToFault.words_of (UpToFault.to_the_end ([], done))) in
+      let none : words_before f [] ≡ [] = words_are f [] (WordsUpToFault.words_of_all (UpToFault.to_the_end ([], done))) in
       let e = words_of_calls begun [] (fresh_holds form is) only in
       subst (WordsUpToFault f (taken calls)) (sym e ∙ ap (λ (l : List ℕ). l ++ handed_out calls) none) (words_some f (taken calls))
 

@@ -26,7 +26,7 @@ module _ (f : Form) (s : List ℕ) where
 
   -- the words up to the end or the first fault are one list
   pub words_are : {ws : List ℕ} → WordsUpToFault f s ws → words_before f s ≡ ws
-  words_are (WordsUpToFault.words_of u) = upto_words u
+  words_are (WordsUpToFault.words_of_all u) = upto_words u
 
   pub words_some : WordsUpToFault f s (words_before f s)
   words_some = go (read_in f s) refl
@@ -34,10 +34,10 @@ module _ (f : Form) (s : List ℕ) where
       go : (x : Outcome Element) → read_in f s ≡ x → WordsUpToFault f s (words_before f s)
       go (accepted es) q =
           let u = UpToFault.to_the_end ((outcomes.accepts (reads f) s es).0 q) in
-          subst (WordsUpToFault f s) (sym (upto_words u)) (WordsUpToFault.words_of u)
+          subst (WordsUpToFault f s) (sym (upto_words u)) (WordsUpToFault.words_of_all u)
       go (refusal r n p d) q =
           let z = refused_read f s r n p d q in
-          subst (WordsUpToFault f s) (sym z.words) (WordsUpToFault.words_of (UpToFault.to_a_fault z.fault))
+          subst (WordsUpToFault f s) (sym z.words) (WordsUpToFault.words_of_all (UpToFault.to_a_fault z.fault))
 
   -- of octets that go on, how many of their pieces are not canonical
   pub goes_respelled : {ps : List (List ℕ)} {es : List Element} {k : ℕ} → GoesOn f s ps es → Apart (CanonicalElement f) ps es k

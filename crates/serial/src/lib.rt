@@ -236,8 +236,8 @@ fn stops(number: usize, ended: bool) -> bool
 
 // Reads a piece that is within the limit, of a page that goes on.
 fn feed_in(form: Form, carry: Carry, piece: &[u8], ended: bool, words: &mut [u32]) -> Fed
-    requires carry_value { could_go form carry ≡ true }
-    requires piece_bound { carry.answer.place + length piece.now ≤ limit }
+    requires goes { could_go form carry ≡ true }
+    requires within { carry.answer.place + length piece.now ≤ limit }
     ensures { (result ≡ fed_in form carry piece.now ended (length words.old)) × (words.new ≡ words_in form carry piece.now words.old) }
 {
     let held = carry.held;

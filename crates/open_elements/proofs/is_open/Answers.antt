@@ -7,7 +7,6 @@ use native.Mathlib.Omega.{arith}
 use lib.ListN.{length}
 use Prim.Native.Nat.{ℕ}
 use lib.Dec.{eqb}
-use borrow.Author.Rules.{rules}
 use Rattle.run.specs.Head.{Head, element, refused, none}
 use Rattle.run.specs.Tagged.{tag_head}
 use Rattle.sorts.specs.declared.Form.{Form}
@@ -18,8 +17,7 @@ use Rattle.element_reading.specs.declared.Step.TheVariants.{Element as Read, Ref
 use Rattle.element_reading.specs.ElementHead.{head_in, step_of, step_at}
 use Rattle.element_reading.proofs.Reader.{reads}
 use Rattle.open_elements.specs.OpenElements.{open_head, is_open}
-use Rattle.open_elements.proofs.is_open.Statement.{statement}
-use Rattle.open_elements.proofs.is_open.Tie as tie
+use Rattle.open_elements.proofs.is_open.Goals as goal
 
 abbrev open_step : Step → Bool
 open_step (Read e k b) = false
@@ -39,39 +37,14 @@ none_open : (f : Form) (s : List ℕ) → length s ≡ 0 → true ≡ is_open f 
 none_open f [] e = ap open_head (sym (reads f).ends)
 none_open f (o ∷ s) e = absurd (omega (arith, e))
 
-element-at-requires : tie.Need-element-at-requires
-element-at-requires c κs = tt
+pub returns-then-waiting-eq0 : goal.returns-then-waiting-eq0
+returns-then-waiting-eq0 c = let a = c.args in none_open a.form a.waiting.now c.if-waiting-eq0.true
 
-enum_told : tie.Need-enum-told
-enum_told c = search rules
+pub returns-in-Element : goal.returns-in-Element
+returns-in-Element c = step_opens _ _ _ _ c.element_at-step.ensures.0 c.in-Element.is
 
-enum-known-step : tie.Need-enum-known-step
-enum-known-step c = search rules
+pub returns-in-Refused : goal.returns-in-Refused
+returns-in-Refused c = step_opens _ _ _ _ c.element_at-step.ensures.0 c.in-Refused.is
 
-enum-told-2 : tie.Need-enum-told-2
-enum-told-2 c = search rules
-
-returns : tie.Need-returns
-returns c = let a = c.before.before.args in none_open a.form a.waiting.now c.if1.true
-
-returns-2 : tie.Need-returns-2
-returns-2 c = step_opens _ _ _ _ c.before.before.element-at.ensures.0 c.enum_told.given.1
-
-returns-3 : tie.Need-returns-3
-returns-3 c = step_opens _ _ _ _ c.before.before.before.element-at.ensures.0 c.before.step.given.1
-
-returns-4 : tie.Need-returns-4
-returns-4 c = step_opens _ _ _ _ c.before.before.element-at.ensures.0 c.enum-told2.given.1
-
-pub is_open_spec : {M : Type 1} → statement M
-is_open_spec =
-    tie.close
-    (tie.spec
-    returns
-    element-at-requires
-    enum_told
-    enum-known-step
-    enum-told-2
-    returns-2
-    returns-3
-    returns-4)
+pub returns-in-End : goal.returns-in-End
+returns-in-End c = step_opens _ _ _ _ c.element_at-step.ensures.0 c.in-End.is
