@@ -1,5 +1,5 @@
 -- Value after value: what is written is the first of the list (values_more).
-use Prim.Native.Nat.{ℕ, ◌-◌}
+use Prim.Native.Nat.{ℕ}
 use mathlib.Core.Path.{◌≡◌, ap}
 use native.Mathlib.Omega.{arith}
 use lib.ListN.{take, length-take}
