@@ -31,14 +31,28 @@ pub fn read_full<R: Read>(reader: &mut R, out: &mut [u8]) -> io::Result<usize>
     Ok(done)
 }
 
-// Puts what the file has, and answers how much that is: nothing where it cannot be opened, which is then said to standard error.
-pub fn load<R: Files + Eprint>(rt: &R, name: &str, out: &mut [u8]) -> io::Result<usize>
+// Puts what the file of that path has; one that cannot be opened is said to standard error.
+fn load_from<R: Files + Eprint>(rt: &R, path: &str, out: &mut [u8]) -> io::Result<usize>
     ensures { ReadsAtMost result out.new }
 {
-    match fs::open(rt, name) {
+    match fs::open(rt, path) {
         Ok(mut file) => read_full(&mut file, out),
         Err(error) => {
-            eprintln!(rt; "{name}: {error}")?;
+            eprintln!(rt; "{path}: {error}")?;
+            Ok(0)
+        }
+    }
+}
+
+// Puts what the file has, and answers how much that is: nothing where it cannot be opened, which is then said to standard error. No path
+// that is not text can be.
+pub fn load<R: Files + Eprint>(rt: &R, name: &[u8], out: &mut [u8]) -> io::Result<usize>
+    ensures { ReadsAtMost result out.new }
+{
+    match str::from_utf8(name) {
+        Ok(path) => load_from(rt, path, out),
+        Err(error) => {
+            eprintln!(rt; "a file's name: {error}")?;
             Ok(0)
         }
     }

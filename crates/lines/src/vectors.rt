@@ -50,7 +50,7 @@ fn answer_in(heading: &[u8]) -> usize {
 }
 
 // Reads the file, and passes its heading.
-pub fn begin<R: Files + Eprint>(rt: &R, name: &str, text: &mut Text) -> io::Result<Tally> {
+pub fn begin<R: Files + Eprint>(rt: &R, name: &[u8], text: &mut Text) -> io::Result<Tally> {
     let end = load(rt, name, text)?;
     let heading = part(text, 0, b'\n');
     Ok(Tally {

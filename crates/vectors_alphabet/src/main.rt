@@ -171,10 +171,10 @@ fn main(rt: HostRuntime) -> io::Result<()> {
     print_unspelt(&rt, Form::Eight)?;
     print_unspelt(&rt, Form::Seven)?;
     print_unspelt(&rt, Form::Basic)?;
-    peers::print_peer(&rt, "glibc_T61.csv", Form::Basic)?;
-    peers::print_peer(&rt, "glibc_ISO6937.csv", Form::Eight)?;
-    peers::print_peer(&rt, "glibc_ISO6937-2.csv", Form::Eight)?;
-    peers::print_peer(&rt, "wireshark_T61.csv", Form::Basic)?;
-    peers::print_peer(&rt, "openldap_T61.csv", Form::Basic)?;
-    peers::print_peer(&rt, "zvbi_teletext_G2.csv", Form::Eight)
+    peers::print_peer(&rt, b"glibc_T61.csv", Form::Basic)?;
+    peers::print_peer(&rt, b"glibc_ISO6937.csv", Form::Eight)?;
+    peers::print_peer(&rt, b"glibc_ISO6937-2.csv", Form::Eight)?;
+    peers::print_peer(&rt, b"wireshark_T61.csv", Form::Basic)?;
+    peers::print_peer(&rt, b"openldap_T61.csv", Form::Basic)?;
+    peers::print_peer(&rt, b"zvbi_teletext_G2.csv", Form::Eight)
 }

@@ -154,14 +154,14 @@ fn print_totals(rt: &impl Print, name: &[u8], agree: usize, differ: usize) -> io
 
 pub(crate) fn print_peer(
     rt: &(impl Files + Print + Eprint),
-    name: &str,
+    name: &[u8],
     form: Form,
 ) -> io::Result<()> {
     let mut text = buffer();
     let mut tally = begin(rt, name, &mut text)?;
     while tally.at < tally.end {
-        let same = compare_line(rt, name.as_bytes(), form, line_of(&text, tally))?;
+        let same = compare_line(rt, name, form, line_of(&text, tally))?;
         tally = pass(&text, tally, same);
     }
-    print_totals(rt, name.as_bytes(), tally.right, tally.wrong)
+    print_totals(rt, name, tally.right, tally.wrong)
 }

@@ -42,7 +42,7 @@ fn answer(out: &mut [u8], line: &[u8]) -> usize {
     put_compared(out, form, &first[..n], &second[..m])
 }
 
-fn run_file(rt: &(impl Files + Print + Eprint), name: &str) -> io::Result<()> {
+fn run_file(rt: &(impl Files + Print + Eprint), name: &[u8]) -> io::Result<()> {
     let mut text = buffer();
     let mut tally = begin(rt, name, &mut text)?;
     while tally.at < tally.end {
@@ -50,31 +50,31 @@ fn run_file(rt: &(impl Files + Print + Eprint), name: &str) -> io::Result<()> {
         let n = answer(&mut ours, line_of(&text, tally));
         tally = judge(rt, &text, tally, &ours, n)?;
     }
-    say_totals(rt, name.as_bytes(), tally)
+    say_totals(rt, name, tally)
 }
 
 fn main(rt: HostRuntime) -> io::Result<()> {
-    run_file(&rt, "respelt_1.csv")?;
-    run_file(&rt, "respelt_2.csv")?;
-    run_file(&rt, "respelt_3.csv")?;
-    run_file(&rt, "changed_1.csv")?;
-    run_file(&rt, "changed_2.csv")?;
-    run_file(&rt, "changed_3.csv")?;
-    run_file(&rt, "ends_1.csv")?;
-    run_file(&rt, "ends_2.csv")?;
-    run_file(&rt, "ends_3.csv")?;
-    run_file(&rt, "near_1.csv")?;
-    run_file(&rt, "near_2.csv")?;
-    run_file(&rt, "near_3.csv")?;
-    run_file(&rt, "refused_1.csv")?;
-    run_file(&rt, "refused_2.csv")?;
-    run_file(&rt, "refused_3.csv")?;
-    run_file(&rt, "damaged_1.csv")?;
-    run_file(&rt, "damaged_2.csv")?;
-    run_file(&rt, "damaged_3.csv")?;
-    run_file(&rt, "joined_1.csv")?;
-    run_file(&rt, "joined_2.csv")?;
-    run_file(&rt, "joined_3.csv")?;
-    run_file(&rt, "upper.csv")?;
-    run_file(&rt, "form.csv")
+    run_file(&rt, b"respelt_1.csv")?;
+    run_file(&rt, b"respelt_2.csv")?;
+    run_file(&rt, b"respelt_3.csv")?;
+    run_file(&rt, b"changed_1.csv")?;
+    run_file(&rt, b"changed_2.csv")?;
+    run_file(&rt, b"changed_3.csv")?;
+    run_file(&rt, b"ends_1.csv")?;
+    run_file(&rt, b"ends_2.csv")?;
+    run_file(&rt, b"ends_3.csv")?;
+    run_file(&rt, b"near_1.csv")?;
+    run_file(&rt, b"near_2.csv")?;
+    run_file(&rt, b"near_3.csv")?;
+    run_file(&rt, b"refused_1.csv")?;
+    run_file(&rt, b"refused_2.csv")?;
+    run_file(&rt, b"refused_3.csv")?;
+    run_file(&rt, b"damaged_1.csv")?;
+    run_file(&rt, b"damaged_2.csv")?;
+    run_file(&rt, b"damaged_3.csv")?;
+    run_file(&rt, b"joined_1.csv")?;
+    run_file(&rt, b"joined_2.csv")?;
+    run_file(&rt, b"joined_3.csv")?;
+    run_file(&rt, b"upper.csv")?;
+    run_file(&rt, b"form.csv")
 }

@@ -103,7 +103,7 @@ fn answer(out: &mut [u8], asked: Asked, line: &[u8]) -> usize {
     }
 }
 
-fn run_file(rt: &(impl Files + Print + Eprint), name: &str, asked: Asked) -> io::Result<()> {
+fn run_file(rt: &(impl Files + Print + Eprint), name: &[u8], asked: Asked) -> io::Result<()> {
     let mut text = buffer();
     let mut tally = begin(rt, name, &mut text)?;
     while tally.at < tally.end {
@@ -111,20 +111,20 @@ fn run_file(rt: &(impl Files + Print + Eprint), name: &str, asked: Asked) -> io:
         let n = answer(&mut ours, asked, line_of(&text, tally));
         tally = judge(rt, &text, tally, &ours, n)?;
     }
-    say_totals(rt, name.as_bytes(), tally)
+    say_totals(rt, name, tally)
 }
 
 fn main(rt: HostRuntime) -> io::Result<()> {
-    run_file(&rt, "read_1.csv", Asked::Reading(Form::Eight))?;
-    run_file(&rt, "read_2.csv", Asked::Reading(Form::Seven))?;
-    run_file(&rt, "read_3.csv", Asked::Reading(Form::Basic))?;
-    run_file(&rt, "sequences.csv", Asked::Reading(Form::Basic))?;
-    run_file(&rt, "spelt_sequences.csv", Asked::Reading(Form::Basic))?;
-    run_file(&rt, "points.csv", Asked::Reading(Form::Basic))?;
-    run_file(&rt, "upper_points.csv", Asked::Reading(Form::Basic))?;
-    run_file(&rt, "mixed_points.csv", Asked::Reading(Form::Basic))?;
-    run_file(&rt, "upper_sequences.csv", Asked::Reading(Form::Basic))?;
-    run_file(&rt, "mixed_sequences.csv", Asked::Reading(Form::Basic))?;
-    run_file(&rt, "characters.csv", Asked::Words)?;
-    run_file(&rt, "words.csv", Asked::Words)
+    run_file(&rt, b"read_1.csv", Asked::Reading(Form::Eight))?;
+    run_file(&rt, b"read_2.csv", Asked::Reading(Form::Seven))?;
+    run_file(&rt, b"read_3.csv", Asked::Reading(Form::Basic))?;
+    run_file(&rt, b"sequences.csv", Asked::Reading(Form::Basic))?;
+    run_file(&rt, b"spelt_sequences.csv", Asked::Reading(Form::Basic))?;
+    run_file(&rt, b"points.csv", Asked::Reading(Form::Basic))?;
+    run_file(&rt, b"upper_points.csv", Asked::Reading(Form::Basic))?;
+    run_file(&rt, b"mixed_points.csv", Asked::Reading(Form::Basic))?;
+    run_file(&rt, b"upper_sequences.csv", Asked::Reading(Form::Basic))?;
+    run_file(&rt, b"mixed_sequences.csv", Asked::Reading(Form::Basic))?;
+    run_file(&rt, b"characters.csv", Asked::Words)?;
+    run_file(&rt, b"words.csv", Asked::Words)
 }

@@ -37,7 +37,7 @@ fn answer(out: &mut [u8], start: Start, line: &[u8]) -> usize {
     }
 }
 
-fn run_file(rt: &(impl Files + Print + Eprint), name: &str, start: Start) -> io::Result<()> {
+fn run_file(rt: &(impl Files + Print + Eprint), name: &[u8], start: Start) -> io::Result<()> {
     let mut text = buffer();
     let mut tally = begin(rt, name, &mut text)?;
     while tally.at < tally.end {
@@ -45,24 +45,24 @@ fn run_file(rt: &(impl Files + Print + Eprint), name: &str, start: Start) -> io:
         let n = answer(&mut ours, start, line_of(&text, tally));
         tally = judge(rt, &text, tally, &ours, n)?;
     }
-    say_totals(rt, name.as_bytes(), tally)
+    say_totals(rt, name, tally)
 }
 
 fn main(rt: HostRuntime) -> io::Result<()> {
-    run_file(&rt, "cut_1.csv", Start::Form)?;
-    run_file(&rt, "cut_2.csv", Start::Form)?;
-    run_file(&rt, "cut_3.csv", Start::Form)?;
-    run_file(&rt, "octet_1.csv", Start::Form)?;
-    run_file(&rt, "octet_2.csv", Start::Form)?;
-    run_file(&rt, "octet_3.csv", Start::Form)?;
-    run_file(&rt, "fault_1.csv", Start::Form)?;
-    run_file(&rt, "fault_2.csv", Start::Form)?;
-    run_file(&rt, "fault_3.csv", Start::Form)?;
-    run_file(&rt, "room_1.csv", Start::Form)?;
-    run_file(&rt, "room_2.csv", Start::Form)?;
-    run_file(&rt, "room_3.csv", Start::Form)?;
-    run_file(&rt, "upper.csv", Start::Form)?;
-    run_file(&rt, "form.csv", Start::Form)?;
-    run_file(&rt, "carry.csv", Start::Carry)?;
-    run_file(&rt, "respelled.csv", Start::Carry)
+    run_file(&rt, b"cut_1.csv", Start::Form)?;
+    run_file(&rt, b"cut_2.csv", Start::Form)?;
+    run_file(&rt, b"cut_3.csv", Start::Form)?;
+    run_file(&rt, b"octet_1.csv", Start::Form)?;
+    run_file(&rt, b"octet_2.csv", Start::Form)?;
+    run_file(&rt, b"octet_3.csv", Start::Form)?;
+    run_file(&rt, b"fault_1.csv", Start::Form)?;
+    run_file(&rt, b"fault_2.csv", Start::Form)?;
+    run_file(&rt, b"fault_3.csv", Start::Form)?;
+    run_file(&rt, b"room_1.csv", Start::Form)?;
+    run_file(&rt, b"room_2.csv", Start::Form)?;
+    run_file(&rt, b"room_3.csv", Start::Form)?;
+    run_file(&rt, b"upper.csv", Start::Form)?;
+    run_file(&rt, b"form.csv", Start::Form)?;
+    run_file(&rt, b"carry.csv", Start::Carry)?;
+    run_file(&rt, b"respelled.csv", Start::Carry)
 }

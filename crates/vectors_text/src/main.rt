@@ -49,7 +49,7 @@ fn answer(out: &mut [u8], asked: Asked, line: &[u8]) -> usize {
     }
 }
 
-fn run_file(rt: &(impl Files + Print + Eprint), name: &str, asked: Asked) -> io::Result<()> {
+fn run_file(rt: &(impl Files + Print + Eprint), name: &[u8], asked: Asked) -> io::Result<()> {
     let mut text = buffer();
     let mut tally = begin(rt, name, &mut text)?;
     while tally.at < tally.end {
@@ -57,24 +57,24 @@ fn run_file(rt: &(impl Files + Print + Eprint), name: &str, asked: Asked) -> io:
         let n = answer(&mut ours, asked, line_of(&text, tally));
         tally = judge(rt, &text, tally, &ours, n)?;
     }
-    say_totals(rt, name.as_bytes(), tally)
+    say_totals(rt, name, tally)
 }
 
 fn main(rt: HostRuntime) -> io::Result<()> {
-    run_file(&rt, "read_1.csv", Asked::Reading)?;
-    run_file(&rt, "read_2.csv", Asked::Reading)?;
-    run_file(&rt, "read_3.csv", Asked::Reading)?;
-    run_file(&rt, "write_1.csv", Asked::Writing)?;
-    run_file(&rt, "write_2.csv", Asked::Writing)?;
-    run_file(&rt, "write_3.csv", Asked::Writing)?;
-    run_file(&rt, "convert_1.csv", Asked::Converting)?;
-    run_file(&rt, "convert_2.csv", Asked::Converting)?;
-    run_file(&rt, "convert_3.csv", Asked::Converting)?;
-    run_file(&rt, "respelled_1.csv", Asked::Converting)?;
-    run_file(&rt, "respelled_2.csv", Asked::Converting)?;
-    run_file(&rt, "respelled_3.csv", Asked::Converting)?;
-    run_file(&rt, "element.csv", Asked::OneElement)?;
-    run_file(&rt, "into.csv", Asked::OneIntoWords)?;
-    compare_file(&rt, "glibc_1.csv", 1)?;
-    compare_file(&rt, "glibc_3.csv", 3)
+    run_file(&rt, b"read_1.csv", Asked::Reading)?;
+    run_file(&rt, b"read_2.csv", Asked::Reading)?;
+    run_file(&rt, b"read_3.csv", Asked::Reading)?;
+    run_file(&rt, b"write_1.csv", Asked::Writing)?;
+    run_file(&rt, b"write_2.csv", Asked::Writing)?;
+    run_file(&rt, b"write_3.csv", Asked::Writing)?;
+    run_file(&rt, b"convert_1.csv", Asked::Converting)?;
+    run_file(&rt, b"convert_2.csv", Asked::Converting)?;
+    run_file(&rt, b"convert_3.csv", Asked::Converting)?;
+    run_file(&rt, b"respelled_1.csv", Asked::Converting)?;
+    run_file(&rt, b"respelled_2.csv", Asked::Converting)?;
+    run_file(&rt, b"respelled_3.csv", Asked::Converting)?;
+    run_file(&rt, b"element.csv", Asked::OneElement)?;
+    run_file(&rt, b"into.csv", Asked::OneIntoWords)?;
+    compare_file(&rt, b"glibc_1.csv", 1)?;
+    compare_file(&rt, b"glibc_3.csv", 3)
 }

@@ -183,16 +183,16 @@ fn print_totals(rt: &impl Print, name: &[u8], texts: usize, counts: &[usize; 4])
 
 pub(crate) fn compare_file(
     rt: &(impl Files + Print + Eprint),
-    name: &str,
+    name: &[u8],
     form: u32,
 ) -> io::Result<()> {
     let mut text = buffer();
     let mut tally = begin(rt, name, &mut text)?;
     let mut counts = [0; 4];
     while tally.at < tally.end {
-        let verdict = judge_line(rt, name.as_bytes(), form, line_of(&text, tally))?;
+        let verdict = judge_line(rt, name, form, line_of(&text, tally))?;
         count(&mut counts, verdict);
         tally = pass(&text, tally, true);
     }
-    print_totals(rt, name.as_bytes(), tally.right, &counts)
+    print_totals(rt, name, tally.right, &counts)
 }

@@ -39,7 +39,7 @@ fn answer(out: &mut [u8], asked: Asked, is_long: bool, line: &[u8]) -> usize {
 
 fn run_file(
     rt: &(impl Files + Print + Eprint),
-    name: &str,
+    name: &[u8],
     asked: Asked,
     is_long: bool,
 ) -> io::Result<()> {
@@ -50,24 +50,24 @@ fn run_file(
         let n = answer(&mut ours, asked, is_long, line_of(&text, tally));
         tally = judge(rt, &text, tally, &ours, n)?;
     }
-    say_totals(rt, name.as_bytes(), tally)
+    say_totals(rt, name, tally)
 }
 
 fn main(rt: HostRuntime) -> io::Result<()> {
-    run_file(&rt, "read_1.csv", Asked::Reading, false)?;
-    run_file(&rt, "read_2.csv", Asked::Reading, false)?;
-    run_file(&rt, "read_3.csv", Asked::Reading, false)?;
-    run_file(&rt, "page_1.csv", Asked::OnePage, false)?;
-    run_file(&rt, "page_2.csv", Asked::OnePage, false)?;
-    run_file(&rt, "page_3.csv", Asked::OnePage, false)?;
-    run_file(&rt, "read_respelled.csv", Asked::Reading, false)?;
-    run_file(&rt, "page_respelled.csv", Asked::OnePage, false)?;
-    run_file(&rt, "header.csv", Asked::HeaderAlone, false)?;
-    run_file(&rt, "write_1.csv", Asked::Writing, false)?;
-    run_file(&rt, "write_2.csv", Asked::Writing, false)?;
-    run_file(&rt, "write_3.csv", Asked::Writing, false)?;
-    run_file(&rt, "write_refused.csv", Asked::Writing, false)?;
-    run_file(&rt, "long_read.csv", Asked::Reading, true)?;
-    run_file(&rt, "long_page.csv", Asked::OnePage, true)?;
-    run_file(&rt, "long_write.csv", Asked::Writing, true)
+    run_file(&rt, b"read_1.csv", Asked::Reading, false)?;
+    run_file(&rt, b"read_2.csv", Asked::Reading, false)?;
+    run_file(&rt, b"read_3.csv", Asked::Reading, false)?;
+    run_file(&rt, b"page_1.csv", Asked::OnePage, false)?;
+    run_file(&rt, b"page_2.csv", Asked::OnePage, false)?;
+    run_file(&rt, b"page_3.csv", Asked::OnePage, false)?;
+    run_file(&rt, b"read_respelled.csv", Asked::Reading, false)?;
+    run_file(&rt, b"page_respelled.csv", Asked::OnePage, false)?;
+    run_file(&rt, b"header.csv", Asked::HeaderAlone, false)?;
+    run_file(&rt, b"write_1.csv", Asked::Writing, false)?;
+    run_file(&rt, b"write_2.csv", Asked::Writing, false)?;
+    run_file(&rt, b"write_3.csv", Asked::Writing, false)?;
+    run_file(&rt, b"write_refused.csv", Asked::Writing, false)?;
+    run_file(&rt, b"long_read.csv", Asked::Reading, true)?;
+    run_file(&rt, b"long_page.csv", Asked::OnePage, true)?;
+    run_file(&rt, b"long_write.csv", Asked::Writing, true)
 }

@@ -1,6 +1,5 @@
 -- The first value (first_zero, first_other, no_first); then the loop knows what is left of the test (Left): an octet of the upper half
 -- (left_upper) or a 0 behind a 3B (left_zero) ends it, a 0 inside a value (left_inside) and any other octet (left_other) go on.
-use Prim.Native.Nat.{◌-◌}
 use native.Mathlib.Omega.{arith}
 use Rattle.canonical_tests.proofs.Scan.{first_zero, first_other, no_first, left_upper, left_zero, left_inside, left_other}
 use Rattle.canonical_tests.proofs.Scan.{left_end}

@@ -1,6 +1,5 @@
 -- The loop knows what stands in the buffer (Filled): behind a run (filled_run), behind a pair (filled_pair) and behind an element
 -- (fill_turn); an accepted text has an element at each place (read_never), and at the end all is written (fill_end).
-use Prim.Native.Nat.{◌-◌}
 use mathlib.Core.Path.{sym, ◌∙◌}
 use native.Mathlib.Omega.{arith}
 use borrow.Author.Rules.{rules}

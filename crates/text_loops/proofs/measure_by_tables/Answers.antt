@@ -1,6 +1,6 @@
 -- The loop knows what it has counted (CountedBoth): behind a run (behind_run), behind a pair (behind_pair) and behind an element
 -- (count_turn, tally_turn); a step that is none is the refusal (read_stop), and at the end all is counted (read_end).
-use Prim.Native.Nat.{◌+◌, ◌-◌}
+use Prim.Native.Nat.{◌+◌}
 use mathlib.Core.Path.{sym, ◌∙◌}
 use native.Mathlib.Omega.{arith}
 use lib.ListN.{drop}

@@ -1,5 +1,5 @@
 -- The loop knows which of the words stand in the buffer (Put): each turn puts the next (put_next).
-use Prim.Native.Nat.{◌+◌, ◌-◌}
+use Prim.Native.Nat.{◌+◌}
 use mathlib.Core.Path.{◌≡◌, refl, subst}
 use native.Mathlib.Omega.{arith}
 use lib.ListN.{take}

@@ -1,6 +1,5 @@
 -- The loop knows which characters of the run stand in the buffer (Stored): one more (stored_more), or the run's end (stored_stop,
 -- stored_end).
-use Prim.Native.Nat.{◌-◌}
 use native.Mathlib.Omega.{arith}
 use borrow.Author.Rules.{rules}
 use Rattle.text_loops.proofs.RunsAndPairs.{stored_start, stored_length, stored_more, stored_stop, stored_end, stored_room}

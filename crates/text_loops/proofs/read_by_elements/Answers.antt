@@ -1,6 +1,6 @@
 -- The loop knows what it has counted and put (TakenBoth), behind each spacing character (graphic_here, graphic_told) and each other element
 -- (here, told_here) by take_turn and tally_turn; a step that is none is the refusal (into_stop), and at the end all is read (into_end).
-use Prim.Native.Nat.{◌+◌, ◌-◌, ◌<◌}
+use Prim.Native.Nat.{◌+◌, ◌<◌}
 use mathlib.Core.Path.{sym, ◌∙◌}
 use native.Mathlib.Omega.{arith}
 use lib.ListN.{length, drop, set}

@@ -1,9 +1,7 @@
 -- What is not wanted is not written (not_wanted); what is wanted has room (wanted_room), and is written (wanted_written).
 use mathlib.Core.Path.{sym, ◌∙◌}
-use mathlib.Core.Bool.{true}
 use lib.Seq.{length-take-le}
 use borrow.Author.Rules.{rules}
-use Rattle.text_loops.specs.Fronts.{is_wanted}
 use Rattle.text_loops.proofs.Fronts.{not_wanted, wanted_inside, wanted_room, wanted_written}
 use Rattle.text_loops.proofs.read_long.Goals as goal
 

@@ -1,9 +1,7 @@
 -- What is read straight into the buffer is all that is wanted (read_straight); else what is not wanted is not written (not_wanted), and
 -- what is wanted has room (wanted_first) and is copied (wanted_copied).
 use mathlib.Core.Path.{sym, ◌∙◌}
-use mathlib.Core.Bool.{true}
 use native.Mathlib.Omega.{arith}
-use Rattle.text_loops.specs.Fronts.{is_wanted}
 use Rattle.text_loops.proofs.Fronts.{read_straight, not_wanted, wanted_first, wanted_copied}
 use Rattle.text_loops.proofs.read_short.Goals as goal
 

@@ -1,5 +1,4 @@
 -- The loop knows how much of the run it has counted (RunSoFar): one octet more (run_more), or the run's end (run_stop, run_end).
-use Prim.Native.Nat.{◌-◌}
 use native.Mathlib.Omega.{arith}
 use Rattle.text_loops.proofs.RunsAndPairs.{run_start, run_end, run_stop, run_more, run_size}
 use Rattle.text_loops.proofs.run_within.Goals as goal

@@ -5,7 +5,6 @@ use Rattle.sorts.specs.declared.Form.{Form}
 use Rattle.text_respelling.specs.Parts.{Lent, CountedRespelt}
 use Rattle.text_respelling.proofs.count_characters.Given as goal
 
-
 abbrev pub invariant-loop-at : goal.invariant-loop-at
 invariant-loop-at l = (f g : Form) → Lent f g l.codes l.squares l.table → CountedRespelt f g l.text l.at l.n l.count 0
 

@@ -1,7 +1,7 @@
 -- The loop over a text knows what stands in the buffer: behind a run (fill_spelt_on), behind a character that the tables read and spell
 -- (run_put), and behind an element (fill_spelt_turn); an accepted text has an element at each place (fill_spelt_never), and at the end all
 -- is written (fill_spelt_end).
-use Prim.Native.Nat.{◌-◌, ◌≤◌}
+use Prim.Native.Nat.{◌≤◌}
 use mathlib.Core.Path.{sym, ◌∙◌}
 use native.Mathlib.Omega.{arith}
 use lib.ListN.{length}
@@ -25,25 +25,25 @@ loop-at-init c =
 pub slice_bounds-put_characters-count-in-loop-at : goal.slice_bounds-put_characters-count-in-loop-at
 slice_bounds-put_characters-count-in-loop-at c =
     let inside : c.loop-at.o ≤ length c.loop-at.out =
-        let a = c.args in
-        omega (
-          arith,
-          fill_spelt_small (reads a.source) (spell_element a.target) (spelt_short a.target) a.text.now a.out.now
-              c.requires.room c.loop-at.invariant,
-          put_length c.loop-at.invariant.put,
-        ) in
+    let a = c.args in
+    omega (
+      arith,
+      fill_spelt_small (reads a.source) (spell_element a.target) (spelt_short a.target) a.text.now a.out.now
+          c.requires.room c.loop-at.invariant,
+      put_length c.loop-at.invariant.put,
+    ) in
     inside
 
 pub slice_bounds-put_characters-start-in-loop-at : goal.slice_bounds-put_characters-start-in-loop-at
 slice_bounds-put_characters-start-in-loop-at c =
     let inside : c.loop-at.o ≤ length c.loop-at.out =
-        let a = c.args in
-        omega (
-          arith,
-          fill_spelt_small (reads a.source) (spell_element a.target) (spelt_short a.target) a.text.now a.out.now
-              c.requires.room c.loop-at.invariant,
-          put_length c.loop-at.invariant.put,
-        ) in
+    let a = c.args in
+    omega (
+      arith,
+      fill_spelt_small (reads a.source) (spell_element a.target) (spelt_short a.target) a.text.now a.out.now
+          c.requires.room c.loop-at.invariant,
+      put_length c.loop-at.invariant.put,
+    ) in
     inside
 
 pub put_characters-run-requires : goal.put_characters-run-requires
@@ -58,17 +58,17 @@ put_characters-run-requires c =
 pub overflow_add-at : goal.overflow_add-at
 overflow_add-at c =
     let after_run =
-        let a = c.args in
-        fill_spelt_on (reads a.source) (spell_element a.target) (spelt_short a.target) a.text.now a.out.now c.requires.room
-        c.loop-at.invariant c.put_characters-run.ensures in
+    let a = c.args in
+    fill_spelt_on (reads a.source) (spell_element a.target) (spelt_short a.target) a.text.now a.out.now c.requires.room
+    c.loop-at.invariant c.put_characters-run.ensures in
     search (rules, after_run.passed.inside)
 
 pub overflow_add-o : goal.overflow_add-o
 overflow_add-o c =
     let after_run =
-        let a = c.args in
-        fill_spelt_on (reads a.source) (spell_element a.target) (spelt_short a.target) a.text.now a.out.now c.requires.room
-        c.loop-at.invariant c.put_characters-run.ensures in
+    let a = c.args in
+    fill_spelt_on (reads a.source) (spell_element a.target) (spelt_short a.target) a.text.now a.out.now c.requires.room
+    c.loop-at.invariant c.put_characters-run.ensures in
     let a = c.args in
     search (
       rules,
@@ -79,9 +79,9 @@ overflow_add-o c =
 pub put_packed-o-requires : goal.put_packed-o-requires
 put_packed-o-requires c =
     let after_run =
-        let a = c.args in
-        fill_spelt_on (reads a.source) (spell_element a.target) (spelt_short a.target) a.text.now a.out.now c.requires.room
-        c.loop-at.invariant c.put_characters-run.ensures in
+    let a = c.args in
+    fill_spelt_on (reads a.source) (spell_element a.target) (spelt_short a.target) a.text.now a.out.now c.requires.room
+    c.loop-at.invariant c.put_characters-run.ensures in
     let a = c.args in
     run_room (reads a.source)
     (text_spelt a.source a.target _ _ a.table.now a.text.now c.requires.lent _ _ c.character_at-x.ensures _
@@ -90,35 +90,35 @@ put_packed-o-requires c =
 pub overflow_add-at-then-p-ne0 : goal.overflow_add-at-then-p-ne0
 overflow_add-at-then-p-ne0 c =
     let after_run =
-        let a = c.args in
-        fill_spelt_on (reads a.source) (spell_element a.target) (spelt_short a.target) a.text.now a.out.now c.requires.room
-        c.loop-at.invariant c.put_characters-run.ensures in
+    let a = c.args in
+    fill_spelt_on (reads a.source) (spell_element a.target) (spelt_short a.target) a.text.now a.out.now c.requires.room
+    c.loop-at.invariant c.put_characters-run.ensures in
     let onward =
-        let a = c.args in
-        run_onward (reads a.source)
-        (text_spelt a.source a.target _ _ a.table.now a.text.now c.requires.lent _ _ c.character_at-x.ensures _
-        c.packed_in-p.ensures c.if-p-ne0.true) a.out.now c.requires.room after_run in
+    let a = c.args in
+    run_onward (reads a.source)
+    (text_spelt a.source a.target _ _ a.table.now a.text.now c.requires.lent _ _ c.character_at-x.ensures _
+    c.packed_in-p.ensures c.if-p-ne0.true) a.out.now c.requires.room after_run in
     search (rules, onward)
 
 pub loop-at-smaller-then-p-ne0 : goal.loop-at-smaller-then-p-ne0
 loop-at-smaller-then-p-ne0 c =
     let after_run =
-        let a = c.args in
-        fill_spelt_on (reads a.source) (spell_element a.target) (spelt_short a.target) a.text.now a.out.now c.requires.room
-        c.loop-at.invariant c.put_characters-run.ensures in
+    let a = c.args in
+    fill_spelt_on (reads a.source) (spell_element a.target) (spelt_short a.target) a.text.now a.out.now c.requires.room
+    c.loop-at.invariant c.put_characters-run.ensures in
     let onward =
-        let a = c.args in
-        run_onward (reads a.source)
-        (text_spelt a.source a.target _ _ a.table.now a.text.now c.requires.lent _ _ c.character_at-x.ensures _
-        c.packed_in-p.ensures c.if-p-ne0.true) a.out.now c.requires.room after_run in
+    let a = c.args in
+    run_onward (reads a.source)
+    (text_spelt a.source a.target _ _ a.table.now a.text.now c.requires.lent _ _ c.character_at-x.ensures _
+    c.packed_in-p.ensures c.if-p-ne0.true) a.out.now c.requires.room after_run in
     omega (arith, onward)
 
 pub loop-at-preserved-then-p-ne0 : goal.loop-at-preserved-then-p-ne0
 loop-at-preserved-then-p-ne0 c =
     let after_run =
-        let a = c.args in
-        fill_spelt_on (reads a.source) (spell_element a.target) (spelt_short a.target) a.text.now a.out.now c.requires.room
-        c.loop-at.invariant c.put_characters-run.ensures in
+    let a = c.args in
+    fill_spelt_on (reads a.source) (spell_element a.target) (spelt_short a.target) a.text.now a.out.now c.requires.room
+    c.loop-at.invariant c.put_characters-run.ensures in
     let a = c.args in
     run_put (reads a.source)
     (text_spelt a.source a.target _ _ a.table.now a.text.now c.requires.lent _ _ c.character_at-x.ensures _
@@ -128,17 +128,17 @@ loop-at-preserved-then-p-ne0 c =
 pub shape_of-out-in_default : goal.shape_of-out-in_default
 shape_of-out-in_default c =
     let after_run =
-        let a = c.args in
-        fill_spelt_on (reads a.source) (spell_element a.target) (spelt_short a.target) a.text.now a.out.now c.requires.room
-        c.loop-at.invariant c.put_characters-run.ensures in
+    let a = c.args in
+    fill_spelt_on (reads a.source) (spell_element a.target) (spelt_short a.target) a.text.now a.out.now c.requires.room
+    c.loop-at.invariant c.put_characters-run.ensures in
     put_length after_run.put
 
 pub returns-in_default : goal.returns-in_default
 returns-in_default c =
     let after_run =
-        let a = c.args in
-        fill_spelt_on (reads a.source) (spell_element a.target) (spelt_short a.target) a.text.now a.out.now c.requires.room
-        c.loop-at.invariant c.put_characters-run.ensures in
+    let a = c.args in
+    fill_spelt_on (reads a.source) (spell_element a.target) (spelt_short a.target) a.text.now a.out.now c.requires.room
+    c.loop-at.invariant c.put_characters-run.ensures in
     let a = c.args in
     let h =
     step_refused a.source a.text.now _ _ c.element_at-step.ensures.0 c.in_default.not-Element
@@ -149,9 +149,9 @@ returns-in_default c =
 pub loop-at-smaller-else-p-ne0 : goal.loop-at-smaller-else-p-ne0
 loop-at-smaller-else-p-ne0 c =
     let after_run =
-        let a = c.args in
-        fill_spelt_on (reads a.source) (spell_element a.target) (spelt_short a.target) a.text.now a.out.now c.requires.room
-        c.loop-at.invariant c.put_characters-run.ensures in
+    let a = c.args in
+    fill_spelt_on (reads a.source) (spell_element a.target) (spelt_short a.target) a.text.now a.out.now c.requires.room
+    c.loop-at.invariant c.put_characters-run.ensures in
     let found = here _ _ _ _ _ _ (sym c.element_at-step.ensures.0 ∙ c.in-Element.is) in
     let a = c.args in
     let h = found in
@@ -165,9 +165,9 @@ loop-at-smaller-else-p-ne0 c =
 pub loop-at-preserved-else-p-ne0 : goal.loop-at-preserved-else-p-ne0
 loop-at-preserved-else-p-ne0 c =
     let after_run =
-        let a = c.args in
-        fill_spelt_on (reads a.source) (spell_element a.target) (spelt_short a.target) a.text.now a.out.now c.requires.room
-        c.loop-at.invariant c.put_characters-run.ensures in
+    let a = c.args in
+    fill_spelt_on (reads a.source) (spell_element a.target) (spelt_short a.target) a.text.now a.out.now c.requires.room
+    c.loop-at.invariant c.put_characters-run.ensures in
     let found = here _ _ _ _ _ _ (sym c.element_at-step.ensures.0 ∙ c.in-Element.is) in
     let a = c.args in
     let h = found in
@@ -177,9 +177,9 @@ loop-at-preserved-else-p-ne0 c =
 pub loop-at-preserved : goal.loop-at-preserved
 loop-at-preserved c =
     let after_run =
-        let a = c.args in
-        fill_spelt_on (reads a.source) (spell_element a.target) (spelt_short a.target) a.text.now a.out.now c.requires.room
-        c.loop-at.invariant c.put_characters-run.ensures in
+    let a = c.args in
+    fill_spelt_on (reads a.source) (spell_element a.target) (spelt_short a.target) a.text.now a.out.now c.requires.room
+    c.loop-at.invariant c.put_characters-run.ensures in
     after_run
 
 pub shape_of-out : goal.shape_of-out

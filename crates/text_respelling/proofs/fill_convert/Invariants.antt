@@ -10,7 +10,6 @@ use Rattle.element_reading.specs.ElementHead.{head_in}
 use Rattle.element_spelling.specs.ElementOctets.{spell_element}
 use Rattle.text_respelling.proofs.fill_convert.Given as goal
 
-
 abbrev pub invariant-loop-at : goal.invariant-loop-at
 invariant-loop-at l = Filled (spelt_by (spell_element l.target) (head_in l.source)) same 34 l.text l.initial.out l.at l.o l.out
 

@@ -2,7 +2,7 @@
 -- spell (respelt_character), and behind an element (respelt_element); a step that is no element is reading's refusal (spelt_stop), an
 -- element that the target does not hold is the refusal 10 (spelt_ten), and either carries 0 (respelt_refused); at the end all is counted
 -- (respelt_end).
-use Prim.Native.Nat.{◌+◌, ◌*◌, ◌-◌, ◌≤◌}
+use Prim.Native.Nat.{◌+◌, ◌*◌, ◌≤◌}
 use mathlib.Core.Path.{refl, sym, ap, ◌∙◌}
 use native.Mathlib.Omega.{arith}
 use lib.ListN.{length, drop, length-drop}
@@ -37,92 +37,92 @@ count_characters-run-requires c =
 pub overflow_add-at : goal.overflow_add-at
 overflow_add-at c =
     let after_run =
-        let a = c.args in
-        respelt_run a.source a.target a.text.now c.loop-at.invariant c.count_characters-run.ensures in
+    let a = c.args in
+    respelt_run a.source a.target a.text.now c.loop-at.invariant c.count_characters-run.ensures in
     let few : let r = c.count_characters-run.result in let i = c.loop-at in (i.at + r.entries ≤ limit) × (i.n + r.elements ≤ limit) × (i.count + r.octets ≤ 34 * limit) =
-        let a = c.args in
-        let on = after_run.counted in
-        let small = spelt_small (reads a.source) (spell_element a.target) (spelt_short a.target) a.text.now on in
-        omega (arith, small, c.requires.few) in
+    let a = c.args in
+    let on = after_run.counted in
+    let small = spelt_small (reads a.source) (spell_element a.target) (spelt_short a.target) a.text.now on in
+    omega (arith, small, c.requires.few) in
     omega (arith, few)
 
 pub overflow_add-n : goal.overflow_add-n
 overflow_add-n c =
     let after_run =
-        let a = c.args in
-        respelt_run a.source a.target a.text.now c.loop-at.invariant c.count_characters-run.ensures in
+    let a = c.args in
+    respelt_run a.source a.target a.text.now c.loop-at.invariant c.count_characters-run.ensures in
     let few : let r = c.count_characters-run.result in let i = c.loop-at in (i.at + r.entries ≤ limit) × (i.n + r.elements ≤ limit) × (i.count + r.octets ≤ 34 * limit) =
-        let a = c.args in
-        let on = after_run.counted in
-        let small = spelt_small (reads a.source) (spell_element a.target) (spelt_short a.target) a.text.now on in
-        omega (arith, small, c.requires.few) in
+    let a = c.args in
+    let on = after_run.counted in
+    let small = spelt_small (reads a.source) (spell_element a.target) (spelt_short a.target) a.text.now on in
+    omega (arith, small, c.requires.few) in
     omega (arith, few)
 
 pub overflow_add-count : goal.overflow_add-count
 overflow_add-count c =
     let after_run =
-        let a = c.args in
-        respelt_run a.source a.target a.text.now c.loop-at.invariant c.count_characters-run.ensures in
+    let a = c.args in
+    respelt_run a.source a.target a.text.now c.loop-at.invariant c.count_characters-run.ensures in
     let few : let r = c.count_characters-run.result in let i = c.loop-at in (i.at + r.entries ≤ limit) × (i.n + r.elements ≤ limit) × (i.count + r.octets ≤ 34 * limit) =
-        let a = c.args in
-        let on = after_run.counted in
-        let small = spelt_small (reads a.source) (spell_element a.target) (spelt_short a.target) a.text.now on in
-        omega (arith, small, c.requires.few) in
+    let a = c.args in
+    let on = after_run.counted in
+    let small = spelt_small (reads a.source) (spell_element a.target) (spelt_short a.target) a.text.now on in
+    omega (arith, small, c.requires.few) in
     omega (arith, few)
 
 pub overflow_add-at-then-p-ne0 : goal.overflow_add-at-then-p-ne0
 overflow_add-at-then-p-ne0 c =
     let after_run =
-        let a = c.args in
-        respelt_run a.source a.target a.text.now c.loop-at.invariant c.count_characters-run.ensures in
+    let a = c.args in
+    respelt_run a.source a.target a.text.now c.loop-at.invariant c.count_characters-run.ensures in
     let few_more =
-        let a = c.args in
-        run_small (reads a.source)
-        (text_spelt a.source a.target _ _ a.table.now a.text.now c.requires.lent _ _ c.character_at-x.ensures _
-        c.packed_in-p.ensures c.if-p-ne0.true) after_run.counted c.requires.few in
+    let a = c.args in
+    run_small (reads a.source)
+    (text_spelt a.source a.target _ _ a.table.now a.text.now c.requires.lent _ _ c.character_at-x.ensures _
+    c.packed_in-p.ensures c.if-p-ne0.true) after_run.counted c.requires.few in
     omega (arith, few_more)
 
 pub overflow_add-n-then-p-ne0 : goal.overflow_add-n-then-p-ne0
 overflow_add-n-then-p-ne0 c =
     let after_run =
-        let a = c.args in
-        respelt_run a.source a.target a.text.now c.loop-at.invariant c.count_characters-run.ensures in
+    let a = c.args in
+    respelt_run a.source a.target a.text.now c.loop-at.invariant c.count_characters-run.ensures in
     let few_more =
-        let a = c.args in
-        run_small (reads a.source)
-        (text_spelt a.source a.target _ _ a.table.now a.text.now c.requires.lent _ _ c.character_at-x.ensures _
-        c.packed_in-p.ensures c.if-p-ne0.true) after_run.counted c.requires.few in
+    let a = c.args in
+    run_small (reads a.source)
+    (text_spelt a.source a.target _ _ a.table.now a.text.now c.requires.lent _ _ c.character_at-x.ensures _
+    c.packed_in-p.ensures c.if-p-ne0.true) after_run.counted c.requires.few in
     omega (arith, few_more)
 
 pub overflow_add-count-then-p-ne0 : goal.overflow_add-count-then-p-ne0
 overflow_add-count-then-p-ne0 c =
     let after_run =
-        let a = c.args in
-        respelt_run a.source a.target a.text.now c.loop-at.invariant c.count_characters-run.ensures in
+    let a = c.args in
+    respelt_run a.source a.target a.text.now c.loop-at.invariant c.count_characters-run.ensures in
     let few_more =
-        let a = c.args in
-        run_small (reads a.source)
-        (text_spelt a.source a.target _ _ a.table.now a.text.now c.requires.lent _ _ c.character_at-x.ensures _
-        c.packed_in-p.ensures c.if-p-ne0.true) after_run.counted c.requires.few in
+    let a = c.args in
+    run_small (reads a.source)
+    (text_spelt a.source a.target _ _ a.table.now a.text.now c.requires.lent _ _ c.character_at-x.ensures _
+    c.packed_in-p.ensures c.if-p-ne0.true) after_run.counted c.requires.few in
     omega (arith, few_more, c.packed_size-count.ensures)
 
 pub loop-at-smaller-then-p-ne0 : goal.loop-at-smaller-then-p-ne0
 loop-at-smaller-then-p-ne0 c =
     let after_run =
-        let a = c.args in
-        respelt_run a.source a.target a.text.now c.loop-at.invariant c.count_characters-run.ensures in
+    let a = c.args in
+    respelt_run a.source a.target a.text.now c.loop-at.invariant c.count_characters-run.ensures in
     let few_more =
-        let a = c.args in
-        run_small (reads a.source)
-        (text_spelt a.source a.target _ _ a.table.now a.text.now c.requires.lent _ _ c.character_at-x.ensures _
-        c.packed_in-p.ensures c.if-p-ne0.true) after_run.counted c.requires.few in
+    let a = c.args in
+    run_small (reads a.source)
+    (text_spelt a.source a.target _ _ a.table.now a.text.now c.requires.lent _ _ c.character_at-x.ensures _
+    c.packed_in-p.ensures c.if-p-ne0.true) after_run.counted c.requires.few in
     omega (arith, few_more, c.if-at-text.true)
 
 pub loop-at-preserved-then-p-ne0 : goal.loop-at-preserved-then-p-ne0
 loop-at-preserved-then-p-ne0 c =
     let after_run =
-        let a = c.args in
-        respelt_run a.source a.target a.text.now c.loop-at.invariant c.count_characters-run.ensures in
+    let a = c.args in
+    respelt_run a.source a.target a.text.now c.loop-at.invariant c.count_characters-run.ensures in
     let a = c.args in
     respelt_character a.source a.target a.text.now after_run _ _ a.table.now c.requires.lent _
     c.character_at-x.ensures _ c.packed_in-p.ensures c.if-p-ne0.true c.packed_size-count.ensures
@@ -130,8 +130,8 @@ loop-at-preserved-then-p-ne0 c =
 pub returns-in_default : goal.returns-in_default
 returns-in_default c =
     let after_run =
-        let a = c.args in
-        respelt_run a.source a.target a.text.now c.loop-at.invariant c.count_characters-run.ensures in
+    let a = c.args in
+    respelt_run a.source a.target a.text.now c.loop-at.invariant c.count_characters-run.ensures in
     let a = c.args in
     let h =
     step_refused a.source a.text.now _ _ c.element_at-step.ensures.0 c.in_default.not-Element
@@ -145,11 +145,11 @@ returns-in_default c =
 pub returns-then-size-eq0 : goal.returns-then-size-eq0
 returns-then-size-eq0 c =
     let after_run =
-        let a = c.args in
-        respelt_run a.source a.target a.text.now c.loop-at.invariant c.count_characters-run.ensures in
+    let a = c.args in
+    respelt_run a.source a.target a.text.now c.loop-at.invariant c.count_characters-run.ensures in
     let found : let a = c.args in let place = c.loop-at.at + c.count_characters-run.result.entries in HereStands (head_in a.source (drop place a.text.now)) place c.in-Element.e c.in-Element.next × HereStands (canonical_head a.source (drop place a.text.now)) place (c.in-Element.e, c.in-Element.canonical) c.in-Element.next =
-        let is = sym c.element_at-step.ensures.0 ∙ c.in-Element.is in
-        (here _ _ _ _ _ _ is, told_here _ _ _ _ _ _ is) in
+    let is = sym c.element_at-step.ensures.0 ∙ c.in-Element.is in
+    (here _ _ _ _ _ _ is, told_here _ _ _ _ _ _ is) in
     let a = c.args in
     let end =
     spelt_ten (reads a.source) (spell_element a.target) (spelt_short a.target) a.text.now after_run.counted
@@ -159,41 +159,41 @@ returns-then-size-eq0 c =
 pub overflow_add-n-else-p-ne0 : goal.overflow_add-n-else-p-ne0
 overflow_add-n-else-p-ne0 c =
     let after_run =
-        let a = c.args in
-        respelt_run a.source a.target a.text.now c.loop-at.invariant c.count_characters-run.ensures in
+    let a = c.args in
+    respelt_run a.source a.target a.text.now c.loop-at.invariant c.count_characters-run.ensures in
     let few : let r = c.count_characters-run.result in let i = c.loop-at in (i.at + r.entries ≤ limit) × (i.n + r.elements ≤ limit) × (i.count + r.octets ≤ 34 * limit) =
-        let a = c.args in
-        let on = after_run.counted in
-        let small = spelt_small (reads a.source) (spell_element a.target) (spelt_short a.target) a.text.now on in
-        omega (arith, small, c.requires.few) in
+    let a = c.args in
+    let on = after_run.counted in
+    let small = spelt_small (reads a.source) (spell_element a.target) (spelt_short a.target) a.text.now on in
+    omega (arith, small, c.requires.few) in
     omega (arith, few)
 
 pub overflow_add-count-else-p-ne0 : goal.overflow_add-count-else-p-ne0
 overflow_add-count-else-p-ne0 c =
     let after_run =
-        let a = c.args in
-        respelt_run a.source a.target a.text.now c.loop-at.invariant c.count_characters-run.ensures in
+    let a = c.args in
+    respelt_run a.source a.target a.text.now c.loop-at.invariant c.count_characters-run.ensures in
     let few : let r = c.count_characters-run.result in let i = c.loop-at in (i.at + r.entries ≤ limit) × (i.n + r.elements ≤ limit) × (i.count + r.octets ≤ 34 * limit) =
-        let a = c.args in
-        let on = after_run.counted in
-        let small = spelt_small (reads a.source) (spell_element a.target) (spelt_short a.target) a.text.now on in
-        omega (arith, small, c.requires.few) in
+    let a = c.args in
+    let on = after_run.counted in
+    let small = spelt_small (reads a.source) (spell_element a.target) (spelt_short a.target) a.text.now on in
+    omega (arith, small, c.requires.few) in
     let a = c.args in
     omega (arith, few, spelt_short a.target c.in-Element.e, c.spelt_size-size.ensures)
 
 pub overflow_add-respelled : goal.overflow_add-respelled
 overflow_add-respelled c =
     let after_run =
-        let a = c.args in
-        respelt_run a.source a.target a.text.now c.loop-at.invariant c.count_characters-run.ensures in
+    let a = c.args in
+    respelt_run a.source a.target a.text.now c.loop-at.invariant c.count_characters-run.ensures in
     let found : let a = c.args in let place = c.loop-at.at + c.count_characters-run.result.entries in HereStands (head_in a.source (drop place a.text.now)) place c.in-Element.e c.in-Element.next × HereStands (canonical_head a.source (drop place a.text.now)) place (c.in-Element.e, c.in-Element.canonical) c.in-Element.next =
-        let is = sym c.element_at-step.ensures.0 ∙ c.in-Element.is in
-        (here _ _ _ _ _ _ is, told_here _ _ _ _ _ _ is) in
+    let is = sym c.element_at-step.ensures.0 ∙ c.in-Element.is in
+    (here _ _ _ _ _ _ is, told_here _ _ _ _ _ _ is) in
     let after_element =
-        let a = c.args in
-        let h = found in
-        respelt_element a.source a.target a.text.now after_run h.0 h.1 c.spelt_size-size.ensures c.if-size-eq0.false
-        c.not_canonical-respelled.ensures in
+    let a = c.args in
+    let h = found in
+    respelt_element a.source a.target a.text.now after_run h.0 h.1 c.spelt_size-size.ensures c.if-size-eq0.false
+    c.not_canonical-respelled.ensures in
     let a = c.args in
     let on = after_element in
     omega (arith, tally_small a.source a.text.now on.tallied, on.tallied.passed.inside, c.requires.few)
@@ -201,11 +201,11 @@ overflow_add-respelled c =
 pub loop-at-smaller-else-p-ne0 : goal.loop-at-smaller-else-p-ne0
 loop-at-smaller-else-p-ne0 c =
     let after_run =
-        let a = c.args in
-        respelt_run a.source a.target a.text.now c.loop-at.invariant c.count_characters-run.ensures in
+    let a = c.args in
+    respelt_run a.source a.target a.text.now c.loop-at.invariant c.count_characters-run.ensures in
     let found : let a = c.args in let place = c.loop-at.at + c.count_characters-run.result.entries in HereStands (head_in a.source (drop place a.text.now)) place c.in-Element.e c.in-Element.next × HereStands (canonical_head a.source (drop place a.text.now)) place (c.in-Element.e, c.in-Element.canonical) c.in-Element.next =
-        let is = sym c.element_at-step.ensures.0 ∙ c.in-Element.is in
-        (here _ _ _ _ _ _ is, told_here _ _ _ _ _ _ is) in
+    let is = sym c.element_at-step.ensures.0 ∙ c.in-Element.is in
+    (here _ _ _ _ _ _ is, told_here _ _ _ _ _ _ is) in
     let a = c.args in
     let h = found.0 in
     let on =
@@ -216,23 +216,23 @@ loop-at-smaller-else-p-ne0 c =
 pub loop-at-preserved-else-p-ne0 : goal.loop-at-preserved-else-p-ne0
 loop-at-preserved-else-p-ne0 c =
     let after_run =
-        let a = c.args in
-        respelt_run a.source a.target a.text.now c.loop-at.invariant c.count_characters-run.ensures in
+    let a = c.args in
+    respelt_run a.source a.target a.text.now c.loop-at.invariant c.count_characters-run.ensures in
     let found : let a = c.args in let place = c.loop-at.at + c.count_characters-run.result.entries in HereStands (head_in a.source (drop place a.text.now)) place c.in-Element.e c.in-Element.next × HereStands (canonical_head a.source (drop place a.text.now)) place (c.in-Element.e, c.in-Element.canonical) c.in-Element.next =
-        let is = sym c.element_at-step.ensures.0 ∙ c.in-Element.is in
-        (here _ _ _ _ _ _ is, told_here _ _ _ _ _ _ is) in
+    let is = sym c.element_at-step.ensures.0 ∙ c.in-Element.is in
+    (here _ _ _ _ _ _ is, told_here _ _ _ _ _ _ is) in
     let after_element =
-        let a = c.args in
-        let h = found in
-        respelt_element a.source a.target a.text.now after_run h.0 h.1 c.spelt_size-size.ensures c.if-size-eq0.false
-        c.not_canonical-respelled.ensures in
+    let a = c.args in
+    let h = found in
+    respelt_element a.source a.target a.text.now after_run h.0 h.1 c.spelt_size-size.ensures c.if-size-eq0.false
+    c.not_canonical-respelled.ensures in
     after_element
 
 pub loop-at-preserved : goal.loop-at-preserved
 loop-at-preserved c =
     let after_run =
-        let a = c.args in
-        respelt_run a.source a.target a.text.now c.loop-at.invariant c.count_characters-run.ensures in
+    let a = c.args in
+    respelt_run a.source a.target a.text.now c.loop-at.invariant c.count_characters-run.ensures in
     after_run
 
 pub returns : goal.returns

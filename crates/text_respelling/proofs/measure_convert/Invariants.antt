@@ -7,7 +7,6 @@ use lib.ListN.{length}
 use Rattle.text_respelling.specs.Parts.{CountedRespelt}
 use Rattle.text_respelling.proofs.measure_convert.Given as goal
 
-
 abbrev pub invariant-loop-at : goal.invariant-loop-at
 invariant-loop-at l = CountedRespelt l.source l.target l.text l.at l.n l.count l.respelled
 

@@ -1,5 +1,4 @@
 -- The loop over the run knows what stands in the buffer, of whatever forms the tables are (run_put).
-use Prim.Native.Nat.{◌-◌}
 use native.Mathlib.Omega.{arith}
 use borrow.Author.Rules.{rules}
 use Rattle.run.proofs.Puts.{put_length}
@@ -33,23 +32,23 @@ put_packed-o-requires c =
 pub overflow_add-at : goal.overflow_add-at
 overflow_add-at c =
     let onward =
-        let a = c.args in
-        run_onward (reads a.source)
-        (text_spelt a.source a.target _ _ a.table.now a.text.now c.requires.lent c.loop-at.at _ c.character_at-x.ensures _
-        (low_packed a.table.now c.character_at-x.result.code _ c.low_in-p.ensures c.if-p-eq0.false) c.if-p-eq0.false) _
-        c.requires.room
-        (c.loop-at.invariant a.source a.target c.requires.lent c.requires.room) in
+    let a = c.args in
+    run_onward (reads a.source)
+    (text_spelt a.source a.target _ _ a.table.now a.text.now c.requires.lent c.loop-at.at _ c.character_at-x.ensures _
+    (low_packed a.table.now c.character_at-x.result.code _ c.low_in-p.ensures c.if-p-eq0.false) c.if-p-eq0.false) _
+    c.requires.room
+    (c.loop-at.invariant a.source a.target c.requires.lent c.requires.room) in
     search (rules, onward)
 
 pub loop-at-smaller : goal.loop-at-smaller
 loop-at-smaller c =
     let onward =
-        let a = c.args in
-        run_onward (reads a.source)
-        (text_spelt a.source a.target _ _ a.table.now a.text.now c.requires.lent c.loop-at.at _ c.character_at-x.ensures _
-        (low_packed a.table.now c.character_at-x.result.code _ c.low_in-p.ensures c.if-p-eq0.false) c.if-p-eq0.false) _
-        c.requires.room
-        (c.loop-at.invariant a.source a.target c.requires.lent c.requires.room) in
+    let a = c.args in
+    run_onward (reads a.source)
+    (text_spelt a.source a.target _ _ a.table.now a.text.now c.requires.lent c.loop-at.at _ c.character_at-x.ensures _
+    (low_packed a.table.now c.character_at-x.result.code _ c.low_in-p.ensures c.if-p-eq0.false) c.if-p-eq0.false) _
+    c.requires.room
+    (c.loop-at.invariant a.source a.target c.requires.lent c.requires.room) in
     omega (arith, onward)
 
 pub loop-at-preserved : goal.loop-at-preserved

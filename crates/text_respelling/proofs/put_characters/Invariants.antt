@@ -11,7 +11,6 @@ use Rattle.element_spelling.specs.ElementOctets.{spell_element}
 use Rattle.text_respelling.specs.Parts.{Lent}
 use Rattle.text_respelling.proofs.put_characters.Given as goal
 
-
 abbrev pub invariant-loop-at : goal.invariant-loop-at
 invariant-loop-at l = (f g : Form) → Lent f g l.codes l.squares l.table → RoomFor same (length l.initial.out) (outcome (spelt_by (spell_element g) (head_in f)) l.text) → Filled (spelt_by (spell_element g) (head_in f)) same 34 l.text l.initial.out l.at l.o l.out
 

@@ -1,5 +1,4 @@
 -- The loop over the run knows what it has counted, of whatever form the table is (run_turn).
-use Prim.Native.Nat.{◌-◌}
 use native.Mathlib.Omega.{arith}
 use lib.ListN.{get_or}
 use Rattle.run.proofs.SpeltLoops.{spelt_start}

@@ -9,7 +9,6 @@ use Rattle.spelling_tables.specs.PackedSpellings.{spelling_table}
 use Rattle.element_spelling.specs.ElementOctets.{spell_head}
 use Rattle.text_writing.proofs.count_words.Given as goal
 
-
 abbrev pub invariant-loop-at : goal.invariant-loop-at
 invariant-loop-at l = (f : Form) → l.table ≡ spelling_table f → Counted (spell_head f) same 34 l.words l.at l.at l.count
 

@@ -1,7 +1,7 @@
 -- The loop over words knows what stands in the buffer: behind a run (fill_spelt_on), behind a character that the table spells (run_put),
 -- and behind an element (fill_spelt_turn); accepted words have an element at each place (fill_spelt_never), and at the end all is written
 -- (fill_spelt_end).
-use Prim.Native.Nat.{◌-◌, ◌≤◌}
+use Prim.Native.Nat.{◌≤◌}
 use mathlib.Core.Path.{sym, ◌∙◌}
 use native.Mathlib.Omega.{arith}
 use lib.ListN.{length}
@@ -24,21 +24,21 @@ loop-at-init c =
 pub slice_bounds-put_words-count-in-loop-at : goal.slice_bounds-put_words-count-in-loop-at
 slice_bounds-put_words-count-in-loop-at c =
     let inside : c.loop-at.o ≤ length c.loop-at.text =
-        let a = c.args in
-        let small =
-        fill_spelt_small words_read (spell_element a.form) (spelt_short a.form) a.words.now a.text.now c.requires.room
-        c.loop-at.invariant in
-        omega (arith, small, put_length c.loop-at.invariant.put) in
+    let a = c.args in
+    let small =
+    fill_spelt_small words_read (spell_element a.form) (spelt_short a.form) a.words.now a.text.now c.requires.room
+    c.loop-at.invariant in
+    omega (arith, small, put_length c.loop-at.invariant.put) in
     inside
 
 pub slice_bounds-put_words-start-in-loop-at : goal.slice_bounds-put_words-start-in-loop-at
 slice_bounds-put_words-start-in-loop-at c =
     let inside : c.loop-at.o ≤ length c.loop-at.text =
-        let a = c.args in
-        let small =
-        fill_spelt_small words_read (spell_element a.form) (spelt_short a.form) a.words.now a.text.now c.requires.room
-        c.loop-at.invariant in
-        omega (arith, small, put_length c.loop-at.invariant.put) in
+    let a = c.args in
+    let small =
+    fill_spelt_small words_read (spell_element a.form) (spelt_short a.form) a.words.now a.text.now c.requires.room
+    c.loop-at.invariant in
+    omega (arith, small, put_length c.loop-at.invariant.put) in
     inside
 
 pub put_words-run-requires : goal.put_words-run-requires
@@ -53,17 +53,17 @@ put_words-run-requires c =
 pub overflow_add-at : goal.overflow_add-at
 overflow_add-at c =
     let after_run =
-        let a = c.args in
-        fill_spelt_on words_read (spell_element a.form) (spelt_short a.form) a.words.now a.text.now c.requires.room c.loop-at.invariant
-        c.put_words-run.ensures in
+    let a = c.args in
+    fill_spelt_on words_read (spell_element a.form) (spelt_short a.form) a.words.now a.text.now c.requires.room c.loop-at.invariant
+    c.put_words-run.ensures in
     search (rules, after_run.passed.inside)
 
 pub overflow_add-o : goal.overflow_add-o
 overflow_add-o c =
     let after_run =
-        let a = c.args in
-        fill_spelt_on words_read (spell_element a.form) (spelt_short a.form) a.words.now a.text.now c.requires.room c.loop-at.invariant
-        c.put_words-run.ensures in
+    let a = c.args in
+    fill_spelt_on words_read (spell_element a.form) (spelt_short a.form) a.words.now a.text.now c.requires.room c.loop-at.invariant
+    c.put_words-run.ensures in
     let a = c.args in
     search (
       rules,
@@ -74,9 +74,9 @@ overflow_add-o c =
 pub put_packed-o-requires : goal.put_packed-o-requires
 put_packed-o-requires c =
     let after_run =
-        let a = c.args in
-        fill_spelt_on words_read (spell_element a.form) (spelt_short a.form) a.words.now a.text.now c.requires.room c.loop-at.invariant
-        c.put_words-run.ensures in
+    let a = c.args in
+    fill_spelt_on words_read (spell_element a.form) (spelt_short a.form) a.words.now a.text.now c.requires.room c.loop-at.invariant
+    c.put_words-run.ensures in
     let a = c.args in
     run_room words_read (word_spelt a.form a.words.now a.table.now c.requires.lent _ _ c.if-at-words.true
     c.packed_in-p.ensures c.if-p-ne0.true) a.text.now c.requires.room after_run
@@ -84,9 +84,9 @@ put_packed-o-requires c =
 pub loop-at-preserved-then-p-ne0 : goal.loop-at-preserved-then-p-ne0
 loop-at-preserved-then-p-ne0 c =
     let after_run =
-        let a = c.args in
-        fill_spelt_on words_read (spell_element a.form) (spelt_short a.form) a.words.now a.text.now c.requires.room c.loop-at.invariant
-        c.put_words-run.ensures in
+    let a = c.args in
+    fill_spelt_on words_read (spell_element a.form) (spelt_short a.form) a.words.now a.text.now c.requires.room c.loop-at.invariant
+    c.put_words-run.ensures in
     let a = c.args in
     run_put words_read (word_spelt a.form a.words.now a.table.now c.requires.lent _ _ c.if-at-words.true
     c.packed_in-p.ensures c.if-p-ne0.true) a.text.now c.requires.room after_run
@@ -95,9 +95,9 @@ loop-at-preserved-then-p-ne0 c =
 pub returns-in_default : goal.returns-in_default
 returns-in_default c =
     let after_run =
-        let a = c.args in
-        fill_spelt_on words_read (spell_element a.form) (spelt_short a.form) a.words.now a.text.now c.requires.room c.loop-at.invariant
-        c.put_words-run.ensures in
+    let a = c.args in
+    fill_spelt_on words_read (spell_element a.form) (spelt_short a.form) a.words.now a.text.now c.requires.room c.loop-at.invariant
+    c.put_words-run.ensures in
     let a = c.args in
     let q = no_word_here a.words.now _ c.if-at-words.true _ c.element_of-meant.ensures.0
     c.in_default.not-Element in
@@ -106,9 +106,9 @@ returns-in_default c =
 pub loop-at-smaller-else-p-ne0 : goal.loop-at-smaller-else-p-ne0
 loop-at-smaller-else-p-ne0 c =
     let after_run =
-        let a = c.args in
-        fill_spelt_on words_read (spell_element a.form) (spelt_short a.form) a.words.now a.text.now c.requires.room c.loop-at.invariant
-        c.put_words-run.ensures in
+    let a = c.args in
+    fill_spelt_on words_read (spell_element a.form) (spelt_short a.form) a.words.now a.text.now c.requires.room c.loop-at.invariant
+    c.put_words-run.ensures in
     let word = word_here _ _ _ _ (sym c.element_of-meant.ensures.0 ∙ c.in-Element.is) in
     let a = c.args in
     let h = word in
@@ -118,9 +118,9 @@ loop-at-smaller-else-p-ne0 c =
 pub loop-at-preserved-else-p-ne0 : goal.loop-at-preserved-else-p-ne0
 loop-at-preserved-else-p-ne0 c =
     let after_run =
-        let a = c.args in
-        fill_spelt_on words_read (spell_element a.form) (spelt_short a.form) a.words.now a.text.now c.requires.room c.loop-at.invariant
-        c.put_words-run.ensures in
+    let a = c.args in
+    fill_spelt_on words_read (spell_element a.form) (spelt_short a.form) a.words.now a.text.now c.requires.room c.loop-at.invariant
+    c.put_words-run.ensures in
     let word = word_here _ _ _ _ (sym c.element_of-meant.ensures.0 ∙ c.in-Element.is) in
     let a = c.args in
     let h = word in
@@ -130,9 +130,9 @@ loop-at-preserved-else-p-ne0 c =
 pub loop-at-preserved : goal.loop-at-preserved
 loop-at-preserved c =
     let after_run =
-        let a = c.args in
-        fill_spelt_on words_read (spell_element a.form) (spelt_short a.form) a.words.now a.text.now c.requires.room c.loop-at.invariant
-        c.put_words-run.ensures in
+    let a = c.args in
+    fill_spelt_on words_read (spell_element a.form) (spelt_short a.form) a.words.now a.text.now c.requires.room c.loop-at.invariant
+    c.put_words-run.ensures in
     after_run
 
 pub returns : goal.returns

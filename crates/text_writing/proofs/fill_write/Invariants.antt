@@ -8,7 +8,6 @@ use Rattle.run.specs.Answers.{same}
 use Rattle.element_spelling.specs.ElementOctets.{spell_head}
 use Rattle.text_writing.proofs.fill_write.Given as goal
 
-
 abbrev pub invariant-loop-at : goal.invariant-loop-at
 invariant-loop-at l = Filled (spell_head l.form) same 34 l.words l.initial.text l.at l.o l.text
 

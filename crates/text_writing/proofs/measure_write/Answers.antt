@@ -1,7 +1,7 @@
 -- The loop over words knows what it has counted: behind a run (spelt_on), behind a character that the table spells (run_turn), and behind
 -- an element (spelt_turn); words that are no element, and an element without octets, are the refusal 10 (spelt_stop, spelt_ten), and at the
 -- end all is counted (spelt_end).
-use Prim.Native.Nat.{◌+◌, ◌*◌, ◌-◌, ◌≤◌}
+use Prim.Native.Nat.{◌+◌, ◌*◌, ◌≤◌}
 use mathlib.Core.Path.{refl, sym, ap, ◌∙◌}
 use native.Mathlib.Omega.{arith}
 use lib.ListN.{length, length-drop}
@@ -30,63 +30,63 @@ count_words-run-requires c =
 pub overflow_add-at : goal.overflow_add-at
 overflow_add-at c =
     let after_run =
-        let a = c.args in
-        spelt_on words_read (spell_element a.form) (spelt_short a.form) a.words.now c.loop-at.invariant c.count_words-run.ensures in
+    let a = c.args in
+    spelt_on words_read (spell_element a.form) (spelt_short a.form) a.words.now c.loop-at.invariant c.count_words-run.ensures in
     let few : let r = c.count_words-run.result in let i = c.loop-at in (i.at + r.entries ≤ limit) × (i.n + r.entries ≤ limit) × (i.count + r.octets ≤ 34 * limit) =
-        let a = c.args in
-        let small = spelt_small words_read (spell_element a.form) (spelt_short a.form) a.words.now after_run in
-        omega (arith, small, c.requires.few) in
+    let a = c.args in
+    let small = spelt_small words_read (spell_element a.form) (spelt_short a.form) a.words.now after_run in
+    omega (arith, small, c.requires.few) in
     omega (arith, few)
 
 pub overflow_add-n : goal.overflow_add-n
 overflow_add-n c =
     let after_run =
-        let a = c.args in
-        spelt_on words_read (spell_element a.form) (spelt_short a.form) a.words.now c.loop-at.invariant c.count_words-run.ensures in
+    let a = c.args in
+    spelt_on words_read (spell_element a.form) (spelt_short a.form) a.words.now c.loop-at.invariant c.count_words-run.ensures in
     let few : let r = c.count_words-run.result in let i = c.loop-at in (i.at + r.entries ≤ limit) × (i.n + r.entries ≤ limit) × (i.count + r.octets ≤ 34 * limit) =
-        let a = c.args in
-        let small = spelt_small words_read (spell_element a.form) (spelt_short a.form) a.words.now after_run in
-        omega (arith, small, c.requires.few) in
+    let a = c.args in
+    let small = spelt_small words_read (spell_element a.form) (spelt_short a.form) a.words.now after_run in
+    omega (arith, small, c.requires.few) in
     omega (arith, few)
 
 pub overflow_add-count : goal.overflow_add-count
 overflow_add-count c =
     let after_run =
-        let a = c.args in
-        spelt_on words_read (spell_element a.form) (spelt_short a.form) a.words.now c.loop-at.invariant c.count_words-run.ensures in
+    let a = c.args in
+    spelt_on words_read (spell_element a.form) (spelt_short a.form) a.words.now c.loop-at.invariant c.count_words-run.ensures in
     let few : let r = c.count_words-run.result in let i = c.loop-at in (i.at + r.entries ≤ limit) × (i.n + r.entries ≤ limit) × (i.count + r.octets ≤ 34 * limit) =
-        let a = c.args in
-        let small = spelt_small words_read (spell_element a.form) (spelt_short a.form) a.words.now after_run in
-        omega (arith, small, c.requires.few) in
+    let a = c.args in
+    let small = spelt_small words_read (spell_element a.form) (spelt_short a.form) a.words.now after_run in
+    omega (arith, small, c.requires.few) in
     omega (arith, few)
 
 pub overflow_add-at-then-p-ne0 : goal.overflow_add-at-then-p-ne0
 overflow_add-at-then-p-ne0 c =
     let after_run =
-        let a = c.args in
-        spelt_on words_read (spell_element a.form) (spelt_short a.form) a.words.now c.loop-at.invariant c.count_words-run.ensures in
+    let a = c.args in
+    spelt_on words_read (spell_element a.form) (spelt_short a.form) a.words.now c.loop-at.invariant c.count_words-run.ensures in
     let few : let r = c.count_words-run.result in let i = c.loop-at in (i.at + r.entries ≤ limit) × (i.n + r.entries ≤ limit) × (i.count + r.octets ≤ 34 * limit) =
-        let a = c.args in
-        let small = spelt_small words_read (spell_element a.form) (spelt_short a.form) a.words.now after_run in
-        omega (arith, small, c.requires.few) in
+    let a = c.args in
+    let small = spelt_small words_read (spell_element a.form) (spelt_short a.form) a.words.now after_run in
+    omega (arith, small, c.requires.few) in
     omega (arith, few)
 
 pub overflow_add-n-then-p-ne0 : goal.overflow_add-n-then-p-ne0
 overflow_add-n-then-p-ne0 c =
     let after_run =
-        let a = c.args in
-        spelt_on words_read (spell_element a.form) (spelt_short a.form) a.words.now c.loop-at.invariant c.count_words-run.ensures in
+    let a = c.args in
+    spelt_on words_read (spell_element a.form) (spelt_short a.form) a.words.now c.loop-at.invariant c.count_words-run.ensures in
     let few : let r = c.count_words-run.result in let i = c.loop-at in (i.at + r.entries ≤ limit) × (i.n + r.entries ≤ limit) × (i.count + r.octets ≤ 34 * limit) =
-        let a = c.args in
-        let small = spelt_small words_read (spell_element a.form) (spelt_short a.form) a.words.now after_run in
-        omega (arith, small, c.requires.few) in
+    let a = c.args in
+    let small = spelt_small words_read (spell_element a.form) (spelt_short a.form) a.words.now after_run in
+    omega (arith, small, c.requires.few) in
     omega (arith, few)
 
 pub overflow_add-count-then-p-ne0 : goal.overflow_add-count-then-p-ne0
 overflow_add-count-then-p-ne0 c =
     let after_run =
-        let a = c.args in
-        spelt_on words_read (spell_element a.form) (spelt_short a.form) a.words.now c.loop-at.invariant c.count_words-run.ensures in
+    let a = c.args in
+    spelt_on words_read (spell_element a.form) (spelt_short a.form) a.words.now c.loop-at.invariant c.count_words-run.ensures in
     let a = c.args in
     let small =
     run_small words_read (word_spelt a.form a.words.now a.table.now c.requires.lent _ _ c.if-at-words.true
@@ -96,8 +96,8 @@ overflow_add-count-then-p-ne0 c =
 pub loop-at-preserved-then-p-ne0 : goal.loop-at-preserved-then-p-ne0
 loop-at-preserved-then-p-ne0 c =
     let after_run =
-        let a = c.args in
-        spelt_on words_read (spell_element a.form) (spelt_short a.form) a.words.now c.loop-at.invariant c.count_words-run.ensures in
+    let a = c.args in
+    spelt_on words_read (spell_element a.form) (spelt_short a.form) a.words.now c.loop-at.invariant c.count_words-run.ensures in
     let a = c.args in
     run_turn words_read (word_spelt a.form a.words.now a.table.now c.requires.lent _ _ c.if-at-words.true
     c.packed_in-p.ensures c.if-p-ne0.true) after_run c.packed_size-count.ensures
@@ -105,8 +105,8 @@ loop-at-preserved-then-p-ne0 c =
 pub returns-in_default : goal.returns-in_default
 returns-in_default c =
     let after_run =
-        let a = c.args in
-        spelt_on words_read (spell_element a.form) (spelt_short a.form) a.words.now c.loop-at.invariant c.count_words-run.ensures in
+    let a = c.args in
+    spelt_on words_read (spell_element a.form) (spelt_short a.form) a.words.now c.loop-at.invariant c.count_words-run.ensures in
     let a = c.args in
     let q = no_word_here a.words.now _ c.if-at-words.true _ c.element_of-meant.ensures.0
     c.in_default.not-Element in
@@ -115,8 +115,8 @@ returns-in_default c =
 pub returns-then-size-eq0 : goal.returns-then-size-eq0
 returns-then-size-eq0 c =
     let after_run =
-        let a = c.args in
-        spelt_on words_read (spell_element a.form) (spelt_short a.form) a.words.now c.loop-at.invariant c.count_words-run.ensures in
+    let a = c.args in
+    spelt_on words_read (spell_element a.form) (spelt_short a.form) a.words.now c.loop-at.invariant c.count_words-run.ensures in
     let word = word_here _ _ _ _ (sym c.element_of-meant.ensures.0 ∙ c.in-Element.is) in
     let a = c.args in
     c.not_held-then-size-eq0.ensures
@@ -126,31 +126,31 @@ returns-then-size-eq0 c =
 pub overflow_add-n-else-p-ne0 : goal.overflow_add-n-else-p-ne0
 overflow_add-n-else-p-ne0 c =
     let after_run =
-        let a = c.args in
-        spelt_on words_read (spell_element a.form) (spelt_short a.form) a.words.now c.loop-at.invariant c.count_words-run.ensures in
+    let a = c.args in
+    spelt_on words_read (spell_element a.form) (spelt_short a.form) a.words.now c.loop-at.invariant c.count_words-run.ensures in
     let few : let r = c.count_words-run.result in let i = c.loop-at in (i.at + r.entries ≤ limit) × (i.n + r.entries ≤ limit) × (i.count + r.octets ≤ 34 * limit) =
-        let a = c.args in
-        let small = spelt_small words_read (spell_element a.form) (spelt_short a.form) a.words.now after_run in
-        omega (arith, small, c.requires.few) in
+    let a = c.args in
+    let small = spelt_small words_read (spell_element a.form) (spelt_short a.form) a.words.now after_run in
+    omega (arith, small, c.requires.few) in
     omega (arith, few)
 
 pub overflow_add-count-else-p-ne0 : goal.overflow_add-count-else-p-ne0
 overflow_add-count-else-p-ne0 c =
     let after_run =
-        let a = c.args in
-        spelt_on words_read (spell_element a.form) (spelt_short a.form) a.words.now c.loop-at.invariant c.count_words-run.ensures in
+    let a = c.args in
+    spelt_on words_read (spell_element a.form) (spelt_short a.form) a.words.now c.loop-at.invariant c.count_words-run.ensures in
     let few : let r = c.count_words-run.result in let i = c.loop-at in (i.at + r.entries ≤ limit) × (i.n + r.entries ≤ limit) × (i.count + r.octets ≤ 34 * limit) =
-        let a = c.args in
-        let small = spelt_small words_read (spell_element a.form) (spelt_short a.form) a.words.now after_run in
-        omega (arith, small, c.requires.few) in
+    let a = c.args in
+    let small = spelt_small words_read (spell_element a.form) (spelt_short a.form) a.words.now after_run in
+    omega (arith, small, c.requires.few) in
     let a = c.args in
     omega (arith, few, spelt_short a.form c.in-Element.e, c.spelt_size-size.ensures)
 
 pub loop-at-smaller-else-p-ne0 : goal.loop-at-smaller-else-p-ne0
 loop-at-smaller-else-p-ne0 c =
     let after_run =
-        let a = c.args in
-        spelt_on words_read (spell_element a.form) (spelt_short a.form) a.words.now c.loop-at.invariant c.count_words-run.ensures in
+    let a = c.args in
+    spelt_on words_read (spell_element a.form) (spelt_short a.form) a.words.now c.loop-at.invariant c.count_words-run.ensures in
     let word = word_here _ _ _ _ (sym c.element_of-meant.ensures.0 ∙ c.in-Element.is) in
     let a = c.args in
     let h = word in
@@ -162,8 +162,8 @@ loop-at-smaller-else-p-ne0 c =
 pub loop-at-preserved-else-p-ne0 : goal.loop-at-preserved-else-p-ne0
 loop-at-preserved-else-p-ne0 c =
     let after_run =
-        let a = c.args in
-        spelt_on words_read (spell_element a.form) (spelt_short a.form) a.words.now c.loop-at.invariant c.count_words-run.ensures in
+    let a = c.args in
+    spelt_on words_read (spell_element a.form) (spelt_short a.form) a.words.now c.loop-at.invariant c.count_words-run.ensures in
     let word = word_here _ _ _ _ (sym c.element_of-meant.ensures.0 ∙ c.in-Element.is) in
     let a = c.args in
     let h = word in
@@ -173,8 +173,8 @@ loop-at-preserved-else-p-ne0 c =
 pub loop-at-preserved : goal.loop-at-preserved
 loop-at-preserved c =
     let after_run =
-        let a = c.args in
-        spelt_on words_read (spell_element a.form) (spelt_short a.form) a.words.now c.loop-at.invariant c.count_words-run.ensures in
+    let a = c.args in
+    spelt_on words_read (spell_element a.form) (spelt_short a.form) a.words.now c.loop-at.invariant c.count_words-run.ensures in
     after_run
 
 pub returns : goal.returns

@@ -1,5 +1,4 @@
 -- The loop over the run knows what stands in the buffer, of whatever form the table is (run_put).
-use Prim.Native.Nat.{◌-◌}
 use lib.ListN.{get_or}
 use Rattle.run.proofs.SpeltLoops.{fill_spelt_start}
 use Rattle.spelling_tables.proofs.LentSpellings.{low_packed}

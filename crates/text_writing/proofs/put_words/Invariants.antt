@@ -10,7 +10,6 @@ use Rattle.spelling_tables.specs.PackedSpellings.{spelling_table}
 use Rattle.element_spelling.specs.ElementOctets.{spell_head}
 use Rattle.text_writing.proofs.put_words.Given as goal
 
-
 abbrev pub invariant-loop-at : goal.invariant-loop-at
 invariant-loop-at l = (f : Form) → l.table ≡ spelling_table f → RoomFor same (length l.initial.text) (outcome (spell_head f) l.words) → Filled (spell_head f) same 34 l.words l.initial.text l.at l.o l.text
 

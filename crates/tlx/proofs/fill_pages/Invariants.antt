@@ -3,7 +3,6 @@ use Prim.Native.Nat.{◌-◌}
 use Rattle.tlx.proofs.Fills.{Filled}
 use Rattle.tlx.proofs.fill_pages.Given as goal
 
-
 abbrev pub invariant-loop-page : goal.invariant-loop-page
 invariant-loop-page l = Filled l.case l.form l.pages l.start l.page l.initial.words l.words l.o
 

@@ -41,29 +41,29 @@ returns-then-alone-ne0 c =
 pub overflow_add-n : goal.overflow_add-n
 overflow_add-n c =
     let turned =
-        let was = c.loop-page.invariant in
-        measure_turn was c.loop-page-test.true c.number_at.ensures c.measure-m.ensures c.if-alone-ne0.false in
+    let was = c.loop-page.invariant in
+    measure_turn was c.loop-page-test.true c.number_at.ensures c.measure-m.ensures c.if-alone-ne0.false in
     omega (arith, measured_small turned)
 
 pub overflow_add-count : goal.overflow_add-count
 overflow_add-count c =
     let turned =
-        let was = c.loop-page.invariant in
-        measure_turn was c.loop-page-test.true c.number_at.ensures c.measure-m.ensures c.if-alone-ne0.false in
+    let was = c.loop-page.invariant in
+    measure_turn was c.loop-page-test.true c.number_at.ensures c.measure-m.ensures c.if-alone-ne0.false in
     omega (arith, measured_small turned)
 
 pub overflow_add-respelled : goal.overflow_add-respelled
 overflow_add-respelled c =
     let turned =
-        let was = c.loop-page.invariant in
-        measure_turn was c.loop-page-test.true c.number_at.ensures c.measure-m.ensures c.if-alone-ne0.false in
+    let was = c.loop-page.invariant in
+    measure_turn was c.loop-page-test.true c.number_at.ensures c.measure-m.ensures c.if-alone-ne0.false in
     omega (arith, measured_small turned)
 
 pub loop-page-preserved : goal.loop-page-preserved
 loop-page-preserved c =
     let turned =
-        let was = c.loop-page.invariant in
-        measure_turn was c.loop-page-test.true c.number_at.ensures c.measure-m.ensures c.if-alone-ne0.false in
+    let was = c.loop-page.invariant in
+    measure_turn was c.loop-page-test.true c.number_at.ensures c.measure-m.ensures c.if-alone-ne0.false in
     turned
 
 pub returns : goal.returns

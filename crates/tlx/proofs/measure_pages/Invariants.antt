@@ -4,7 +4,6 @@ use Prim.Native.Nat.{◌-◌}
 use Rattle.tlx.proofs.Pages.{Measured}
 use Rattle.tlx.proofs.measure_pages.Given as goal
 
-
 abbrev pub invariant-loop-page : goal.invariant-loop-page
 invariant-loop-page l = Measured l.case l.form l.pages l.start l.page l.n l.count l.respelled
 

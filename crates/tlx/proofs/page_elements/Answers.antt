@@ -80,9 +80,9 @@ slice_bounds-measure-count c =
     let the_header = sym c.header_of-header.ensures.0 ∙ c.in-Pages.is in
     let right = right_header _ _ _ the_header in
     let begins : let a = c.args in 8 + 2 * c.in-Pages.pages + c.total_of.result ≡ 8 + 2 * c.in-Pages.pages + total_before a.case.now a.page =
-        let a = c.args in
-        let few : a.page ≤ 256 = omega (arith, right.few, c.if-pages-page.false) in
-        ap (λ (n : ℕ). 8 + 2 * c.in-Pages.pages + n) (summed_before a.case.now few c.total_of.ensures.0) in
+    let a = c.args in
+    let few : a.page ≤ 256 = omega (arith, right.few, c.if-pages-page.false) in
+    ap (λ (n : ℕ). 8 + 2 * c.in-Pages.pages + n) (summed_before a.case.now few c.total_of.ensures.0) in
     let inside = page_inside right c.if-pages-page.false begins c.number_at.ensures.0 in
     omega (arith, inside)
 
@@ -91,9 +91,9 @@ slice_bounds-measure-start c =
     let the_header = sym c.header_of-header.ensures.0 ∙ c.in-Pages.is in
     let right = right_header _ _ _ the_header in
     let begins : let a = c.args in 8 + 2 * c.in-Pages.pages + c.total_of.result ≡ 8 + 2 * c.in-Pages.pages + total_before a.case.now a.page =
-        let a = c.args in
-        let few : a.page ≤ 256 = omega (arith, right.few, c.if-pages-page.false) in
-        ap (λ (n : ℕ). 8 + 2 * c.in-Pages.pages + n) (summed_before a.case.now few c.total_of.ensures.0) in
+    let a = c.args in
+    let few : a.page ≤ 256 = omega (arith, right.few, c.if-pages-page.false) in
+    ap (λ (n : ℕ). 8 + 2 * c.in-Pages.pages + n) (summed_before a.case.now few c.total_of.ensures.0) in
     let inside = page_inside right c.if-pages-page.false begins c.number_at.ensures.0 in
     omega (arith, inside)
 
@@ -102,9 +102,9 @@ slice_bounds-measure-end c =
     let the_header = sym c.header_of-header.ensures.0 ∙ c.in-Pages.is in
     let right = right_header _ _ _ the_header in
     let begins : let a = c.args in 8 + 2 * c.in-Pages.pages + c.total_of.result ≡ 8 + 2 * c.in-Pages.pages + total_before a.case.now a.page =
-        let a = c.args in
-        let few : a.page ≤ 256 = omega (arith, right.few, c.if-pages-page.false) in
-        ap (λ (n : ℕ). 8 + 2 * c.in-Pages.pages + n) (summed_before a.case.now few c.total_of.ensures.0) in
+    let a = c.args in
+    let few : a.page ≤ 256 = omega (arith, right.few, c.if-pages-page.false) in
+    ap (λ (n : ℕ). 8 + 2 * c.in-Pages.pages + n) (summed_before a.case.now few c.total_of.ensures.0) in
     let inside = page_inside right c.if-pages-page.false begins c.number_at.ensures.0 in
     omega (arith, inside)
 
@@ -120,9 +120,9 @@ returns-else-pages-page c =
     let the_header = sym c.header_of-header.ensures.0 ∙ c.in-Pages.is in
     let right = right_header _ _ _ the_header in
     let begins : let a = c.args in 8 + 2 * c.in-Pages.pages + c.total_of.result ≡ 8 + 2 * c.in-Pages.pages + total_before a.case.now a.page =
-        let a = c.args in
-        let few : a.page ≤ 256 = omega (arith, right.few, c.if-pages-page.false) in
-        ap (λ (n : ℕ). 8 + 2 * c.in-Pages.pages + n) (summed_before a.case.now few c.total_of.ensures.0) in
+    let a = c.args in
+    let few : a.page ≤ 256 = omega (arith, right.few, c.if-pages-page.false) in
+    ap (λ (n : ℕ). 8 + 2 * c.in-Pages.pages + n) (summed_before a.case.now few c.total_of.ensures.0) in
     promised _ _ _ octets
     (the_page _ _ _ _ the_header _ _ c.if-pages-page.false begins c.number_at.ensures.0 _
     c.measure.ensures)
