@@ -34,10 +34,28 @@ def entry(number: int, digits: int = 4) -> str:
     return f"0x{number:0{digits}X}" if number else "0"
 
 
+def laid_out(lines: Iterable[str]) -> Iterator[str]:
+    """The lines as the formatter lays them out: entries that stand behind one another fill a line of under 100 columns; others stay."""
+    row = ""
+    for line in lines:
+        indent = len(line) - len(line.lstrip())
+        is_entry = line.lstrip()[0].isdigit()
+        if row and is_entry and len(row) + 1 + len(line.lstrip()) < 100:
+            row += " " + line.lstrip()
+            continue
+        if row:
+            yield row
+        row = " " * indent + line.lstrip() if is_entry else ""
+        if not is_entry:
+            yield line
+    if row:
+        yield row
+
+
 def table(name: str, of: str, lines: Iterable[str]) -> Iterator[str]:
-    """A public constant: its name, its type, and a line an entry or a comment."""
+    """A public constant: its name, its type, and its lines, each an entry, a comment or a bracket."""
     yield f"pub const {name}: {of} = ["
-    yield from ("    " + line for line in lines)
+    yield from laid_out("    " + line for line in lines)
     yield "];"
 
 

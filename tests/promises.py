@@ -46,7 +46,7 @@ def functions(text):
 
 def codec_crates():
     for line in (ROOT / "crates.txt").read_text().splitlines():
-        name = line.split(":")[0].strip()
+        name = line.split(":")[0].split()[0]
         yield name
         if name == LAST:
             return
@@ -66,13 +66,15 @@ def parameters(signature):
 def expected(promise, signature, result, body):
     """The whole `ensures` that a function of this signature has. For C a truth is a number: the callee is lent whether it is not 0."""
     given, after = [], []
-    lent, answer = ("({} .entry)", "(now r) (ptr r)") if LENT.match(result) else ("(now ({} .entry))", "r")
+    is_part = LENT.match(result)
     for name, kind in parameters(signature):
-        truth = f"(not (eqb {name} 0))" if re.search(rf"\b{name} != 0[,)]", body) else name
-        given.append(lent.format(name) if LENT.match(kind) else truth)
+        truth = f"(not (eqb {name} 0))" if re.search(rf"\b{re.escape(name)} != 0[,)]", body) else name
+        at_entry = f"{name}.entry" if is_part else f"{name}.old" if LENT_TO_WRITE.match(kind) else f"{name}.now"
+        given.append(at_entry if LENT.match(kind) else truth)
         if LENT_TO_WRITE.match(kind):
-            after.append(f"(now ({name} .exit))")
-    return f"ensures {{ λ r. ⌜ {' '.join([promise, *given, answer, *after])} ⌝ }}"
+            after.append(f"{name}.new")
+    answer = "result.now result.ref_ptr" if is_part else "result"
+    return f"ensures {{ {' '.join([promise, *given, answer, *after])} }}"
 
 
 def faults(crate):
