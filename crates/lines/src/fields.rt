@@ -1,6 +1,6 @@
 // The fields of a line, with commas between, and the hexadecimal digits in them.
 ghost use Rattle.std.specs.Prelude.{◌-◌, ◌<◌, ◌≤◌, length};
-ghost use Rattle.lines.specs.Counts.{IsPrefixLen};
+ghost use Rattle.io.specs.Counts.{IsPrefixLen};
 
 // The place of the first `wanted` from `at` on, or the end of the text.
 fn find(text: &[u8], at: usize, wanted: u8) -> usize

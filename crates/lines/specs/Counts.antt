@@ -1,6 +1,0 @@
--- What the contracts of counts cite: how many entries are put at the start of a room.
-use Rattle.std.specs.Prelude.{◌≡◌, ℕ, ◌≤◌, List, length, take}
-
--- `&xs[..n]` is in bounds and has n entries. The second part follows from the first, and spares a caller's `&room[..n]` a proof file.
-abbrev pub IsPrefixLen : ℕ → List ℕ → Type 0
-IsPrefixLen n xs = (n ≤ length xs) × (n ≡ length (take n xs))
