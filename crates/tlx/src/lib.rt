@@ -91,8 +91,8 @@ fn measure_pages(form: u32, case: &[u8], pages: usize) -> CaseAnswer
 
 // The second pass, where every page is accepted and there is room.
 fn fill_pages(form: u32, case: &[u8], pages: usize, words: &mut [u32])
-    requires case_value { header_of case.now ≡ Header.Pages form pages }
-    requires room_for { RoomFor words_of (length words.old) (outcome_of (read_case case.now)) }
+    requires header { header_of case.now ≡ Header.Pages form pages }
+    requires room { RoomFor words_of (length words.old) (outcome_of (read_case case.now)) }
     ensures { words.new ≡ read_case_words case.now words.old }
 {
     let mut start = 8 + 2 * pages;

@@ -8,13 +8,13 @@ use Rattle.tlx.proofs.Fills.{fill_start, fill_place, fill_small, fill_turn, fill
 use Rattle.tlx.proofs.fill_pages.Goals as goal
 
 pub overflow_mul-start : goal.overflow_mul-start
-overflow_mul-start c = omega (arith, (right_header _ _ _ c.requires.case_value).few)
+overflow_mul-start c = omega (arith, (right_header _ _ _ c.requires.header).few)
 
 pub overflow_add-start : goal.overflow_add-start
-overflow_add-start c = omega (arith, (right_header _ _ _ c.requires.case_value).few)
+overflow_add-start c = omega (arith, (right_header _ _ _ c.requires.header).few)
 
 pub loop-page-init : goal.loop-page-init
-loop-page-init c = fill_start _ c.requires.case_value
+loop-page-init c = fill_start _ c.requires.header
 
 pub overflow_mul-page : goal.overflow_mul-page
 overflow_mul-page c = omega (arith, c.loop-page.invariant.read.right.few)
@@ -42,31 +42,31 @@ slice_bounds-read-end c =
 
 pub offset_bounds-words-o : goal.offset_bounds-words-o
 offset_bounds-words-o c =
-    let place = fill_place c.requires.room_for c.loop-page.invariant in
+    let place = fill_place c.requires.room c.loop-page.invariant in
     omega (arith, place)
 
 pub slice_bounds-read-count-in-loop-page : goal.slice_bounds-read-count-in-loop-page
 slice_bounds-read-count-in-loop-page c =
-    let place = fill_place c.requires.room_for c.loop-page.invariant in
+    let place = fill_place c.requires.room c.loop-page.invariant in
     place
 
 pub slice_bounds-read-start-in-loop-page : goal.slice_bounds-read-start-in-loop-page
 slice_bounds-read-start-in-loop-page c =
-    let place = fill_place c.requires.room_for c.loop-page.invariant in
+    let place = fill_place c.requires.room c.loop-page.invariant in
     place
 
 pub overflow_add-o : goal.overflow_add-o
 overflow_add-o c =
-    let room = c.requires.room_for in
+    let room = c.requires.room in
     omega (arith, fill_small room c.loop-page.invariant c.loop-page-test.true c.number_at.ensures c.read-a.ensures)
 
 pub loop-page-preserved : goal.loop-page-preserved
 loop-page-preserved c =
-    let room = c.requires.room_for in
+    let room = c.requires.room in
     fill_turn room c.loop-page.invariant c.loop-page-test.true c.number_at.ensures c.read-a.ensures
 
 pub shape_of-words : goal.shape_of-words
 shape_of-words c = put_length c.loop-page.invariant.put
 
 pub returns : goal.returns
-returns c = fill_all c.requires.room_for c.loop-page.invariant c.loop-page-test.false
+returns c = fill_all c.requires.room c.loop-page.invariant c.loop-page-test.false

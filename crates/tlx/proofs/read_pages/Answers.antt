@@ -17,8 +17,8 @@ pub fill_pages-requires : goal.fill_pages-requires
 fill_pages-requires c =
     let m = c.measure_pages-a.ensures in
     record {
-      case_value = c.requires;
-      room_for = (roomy _ _ _ c.requires c.args.words.now _ m c.if-numbers-ne0.false c.if-words-count.false).0;
+      header = c.requires;
+      room = (roomy _ _ _ c.requires c.args.words.now _ m c.if-numbers-ne0.false c.if-words-count.false).0;
     }
 
 pub returns : goal.returns
