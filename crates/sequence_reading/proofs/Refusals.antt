@@ -9,7 +9,7 @@ use lib.ListN.{length, take}
 use lib.Seq.{take-append-add, take-append_seam, take-length}
 use Rattle.run.specs.Head.{Head, refused}
 use Rattle.sorts.specs.Forms.{CSI}
-use Rattle.sequence_reading.specs.Grammar.{Sequence, Inside, SpellsSequence, sequence, RefusesSequence, ends, not_allowed, passes, Goes_on}
+use Rattle.sequence_reading.specs.Grammar.{Sequence, Inside, SpellsSequence, sequence, RefusesSequence, ends, not_allowed, passes, GoesOn}
 use Rattle.sequence_reading.specs.Grammar.{fortieth}
 use Rattle.sequence_reading.specs.SequenceHead.{sequence_head}
 use Rattle.sequence_reading.proofs.Steps.{kind_final}
@@ -46,7 +46,7 @@ inside_before (passes {s} {vs} b t h n) = (0, vs, rw (take-append_seam s (b ∷ 
 inside_before (fortieth {s} {vs} {m} b t h l n) = (m, vs, rw (take-append_seam s (b ∷ t)) h)
 
 -- What stands before the deciding octet can be continued to a whole sequence: by a final.
-pub goes_on : {s : List ℕ} {r d : ℕ} → RefusesSequence s r d → Goes_on s d
+pub goes_on : {s : List ℕ} {r d : ℕ} → RefusesSequence s r d → GoesOn s d
 goes_on {s} {r} {d} k =
     let i = inside_before k in
     let e : take d s ++ (0x40 ∷ []) ≡ CSI ∷ ((i.2.parameters ++ i.2.intermediate) ++ (0x40 ∷ [])) =

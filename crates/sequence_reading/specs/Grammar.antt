@@ -90,7 +90,7 @@ pub data RefusesSequence : List ℕ → ℕ → ℕ → Type 0 where
       → RefusesSequence (s ++ (b ∷ t)) 8 (length s)
 
 -- what stands before the deciding octet, continued to a whole sequence
-pub record Goes_on (s : List ℕ) (d : ℕ) : Type 0 where
+pub record GoesOn (s : List ℕ) (d : ℕ) : Type 0 where
   pub more : List ℕ
   pub rest : List ℕ
   pub found : Sequence

@@ -1,5 +1,5 @@
 // The functions of `tlx`, called with a part of a larger room, and what they answer as text.
-ghost use Rattle.lines.specs.Counts.{IsPrefixLen};
+ghost use Rattle.io.specs.Counts.{IsPrefixLen};
 
 use crate::runs::{octets_in_runs, put_octet_runs, put_word_runs};
 use lines::answer::{

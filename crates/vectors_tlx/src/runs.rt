@@ -1,6 +1,6 @@
 // Long lists, written as runs: how many times, and which entry. `FFFF 0041 0001 001B` is 65,535 times 41, and then 1B.
 ghost use Rattle.std.specs.Prelude.{◌≤◌, ◌<◌, length};
-ghost use Rattle.lines.specs.Counts.{IsPrefixLen};
+ghost use Rattle.io.specs.Counts.{IsPrefixLen};
 
 use lines::answer::{put, put_word};
 use lines::fields::words_in;
