@@ -7,6 +7,7 @@ use sorts::Form;
 
 // Of an element of one word: by the word, the last of its octets, and how many they are. 01: "One octet where the form has one, else the
 // pair": in forms 1 and 2 each character of ASCII has one. "Form 3 writes the number sign A6 and the currency sign A8", and not 23 and 24.
+#[tactic(auto, using(crate::proofs::Scan::basic_number_sign))]
 pub fn word_is_canonical(form: Form, word: u32, last: u8, size: usize) -> bool
     ensures { WordIsCanonicalPromise form word last size result }
 {

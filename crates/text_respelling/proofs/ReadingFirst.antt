@@ -24,7 +24,8 @@ use Rattle.element_words.specs.Words.{words_of}
 use Rattle.element_reading.specs.ElementHead.{head_in}
 use Rattle.element_reading.proofs.Reader.{reads}
 use Rattle.element_spelling.specs.ElementOctets.{spell_element}
-use Rattle.text_loops.specs.Fronts.{read_in, respelled_before}
+use Rattle.text_loops.specs.declared.Measured.{Measured}
+use Rattle.text_loops.specs.Fronts.{read_in, respelled_before, measured}
 use Rattle.text_reading.specs.ReadingNumbers.{limit}
 use Rattle.text_reading.proofs.Edges.{over, within, carried_refused, carried_bare, carried_nine, carried}
 use Rattle.text_respelling.specs.Parts.{reading_first, respelt_after_reading, RespeltAnswer}
@@ -41,6 +42,11 @@ module _ (f : Form) (text : List ℕ) (a read : Answer) (is : read ≡ roomy_ans
   pub read_accepted : read.number ≡ 0 → a ≡ reading_first f text a
   read_accepted z =
       sym (simp (eq-eqb (roomy_answer words_of (length text) (read_in f text)).number 0 (sym (ap (λ (x : Answer). x.number) is) ∙ z)))
+
+-- the same of what the reader's first pass measured
+pub refused_first : (f : Form) (text : List ℕ) (a : Answer) (m : Measured) → m ≡ measured f text → (m.answer.number ≡ 0 → ⊥)
+    → m.answer ≡ reading_first f text a
+refused_first f text a m is = read_refused f text a m.answer (ap (λ (x : Measured). x.answer) is)
 
 -- ---- the whole answer
 

@@ -255,6 +255,7 @@ fn fill_convert(
 
 // Of a conversion that the first pass refused: the reading's refusal comes before 10. What follows the element that the target does not
 // hold is read only here.
+#[tactic(auto, using(crate::proofs::ReadingFirst::refused_first))]
 fn reading_first(source: Form, text: &[u8], refused: Answer) -> Answer
     ensures { result ≡ reading_first source text.now refused }
 {

@@ -1,4 +1,5 @@
 pub mod Packed
+pub mod Limit
 mod Places
 pub mod Runs
 pub mod OneAnswer

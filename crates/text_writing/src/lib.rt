@@ -197,6 +197,7 @@ fn write_by(form: Form, table: &[u32; 430], words: &[u32], text: &mut [u8]) -> A
 }
 
 // Writes a list of words in a form. 01's order of refusals: 12, 10, 9.
+#[tactic(auto, using(crate::proofs::Limit::over_answered, crate::proofs::Limit::over_kept))]
 pub fn write_in(form: Form, words: &[u32], text: &mut [u8]) -> Answer
     ensures { WriteInPromise form words.now text.old result text.new }
 {

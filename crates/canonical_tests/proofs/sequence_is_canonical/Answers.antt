@@ -1,6 +1,8 @@
 -- The first value (first_zero, first_other, no_first); then the loop knows what is left of the test (Left): an octet of the upper half
 -- (left_upper) or a 0 behind a 3B (left_zero) ends it, a 0 inside a value (left_inside) and any other octet (left_other) go on.
 use native.Mathlib.Omega.{arith}
+use Prim.Native.Nat.{◌<◌}
+use lib.ListN.{get_or}
 use Rattle.canonical_tests.proofs.Scan.{first_zero, first_other, no_first, left_upper, left_zero, left_inside, left_other}
 use Rattle.canonical_tests.proofs.Scan.{left_end}
 use Rattle.canonical_tests.proofs.sequence_is_canonical.Goals as goal
@@ -34,7 +36,7 @@ pub loop-i-preserved : goal.loop-i-preserved
 loop-i-preserved c =
     let i = c.loop-i.invariant in
     let t = c.loop-i-test.true in
-    let u = c.if-octets-i-ge128.false in
+    let u : get_or c.args.octets.now c.loop-i.i 0 < 0x80 = omega arith in
     elim c.if-octets-i-eq48.branch [
       | then-octets-i-eq48+else-octets-i-eq59 w ↦ left_inside _ _ i t u w.if-octets-i-eq59.false
       | else-octets-i-eq48 w ↦ left_other _ _ i t u w.if-octets-i-eq48.false

@@ -29,7 +29,7 @@ returns-then-room-n c =
 pub put_octets-requires : goal.put_octets-requires
 put_octets-requires c =
     after_room _ (octets_of c.word_spelling-x.result) c.octets_in-n.ensures
-    c.if-out-at.false c.if-room-n.false
+    c.if-out-at.false (omega arith)
     c.put-i.ensures
 
 pub returns-then-is_underlined : goal.returns-then-is_underlined
@@ -37,7 +37,7 @@ returns-then-is_underlined c =
     let a = c.args in
     after_put a.form a.w _ _ c.octets_in-n.ensures c.word_spelling-x.ensures
     (sym c.is_underlined.ensures ∙ c.if-is_underlined.true) c.if-n-eq0.false
-    c.if-out-at.false c.if-room-n.false c.put-i.ensures
+    c.if-out-at.false (omega arith) c.put-i.ensures
     c.put_octets.ensures
 
 pub returns-then-room-n-2 : goal.returns-then-room-n-2
@@ -52,4 +52,4 @@ returns c =
     let a = c.args in
     bare_put a.form a.w _ _ c.octets_in-n.ensures c.word_spelling-x.ensures
     (sym c.is_underlined.ensures ∙ c.if-is_underlined.false)
-    c.if-out-at.false c.if-room-n-2.false c.put_octets-2.ensures
+    c.if-out-at.false (omega arith) c.put_octets-2.ensures

@@ -177,4 +177,4 @@ returns c =
     first_told a.form (a.waiting.now ++ a.piece.now) _ in_window e.e e.next e.canonical (sym c.element_at-step.ensures.0 ∙ e.is) in
     let r = rest_read a.form a.waiting.now a.piece.now c.requires told a.words.now _ _ _ _ (behind_is a.piece.now _) c.read_front-rest.ensures in
     front_fits _ _ told a.words.now _ _ _ c.words_in-w.ensures c.not_canonical.ensures r.0 r.1 c.behind_one-answer.ensures
-    c.if-words-count.false c.put_words.ensures
+    (omega arith) c.put_words.ensures

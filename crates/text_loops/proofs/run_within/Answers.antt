@@ -19,7 +19,7 @@ loop-i-preserved c =
     let a = c.args in
     let i = c.loop-i in
     run_more a.codes.now a.text.now a.at a.most i.i i.invariant c.loop-i-test.true c.requires _
-    c.code_in.ensures c.if-code_in-ge-NO_CHARACTER.false
+    c.code_in.ensures (omega arith)
 
 pub returns : goal.returns
 returns c =

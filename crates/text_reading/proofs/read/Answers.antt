@@ -49,7 +49,7 @@ unfolding read_answer read_words respelled_in
 returns c =
     let is_form = sym c.form_of-found.ensures.0 ∙ c.in-Is.is in
     let a = c.args in
-    let w = whole_roomy _ _ _ c.read_front-m.ensures c.if-answer-ne0.false c.if-words-m.false in
+    let w = whole_roomy _ _ _ c.read_front-m.ensures c.if-answer-ne0.false (omega arith) in
     let asked = asked_within _ a.text.now _ _ _ w is_form c.if-text-gt-LIMIT.false in
     let k = ap (λ (m : Measured). m.respelled) c.read_front-m.ensures.0 in
     (carried _ _ _ _ c.reading_of-2.ensures asked.0 (a_form _ _ _ _ _ is_form k), asked.1)
