@@ -53,8 +53,8 @@ def laid_out(lines: Iterable[str]) -> Iterator[str]:
 
 
 def table(name: str, of: str, lines: Iterable[str]) -> Iterator[str]:
-    """A public constant: its name, its type, and its lines, each an entry, a comment or a bracket."""
-    yield f"pub const {name}: {of} = ["
+    """A public static table: its name, its type, and its lines, each an entry, a comment or a bracket."""
+    yield f"pub static {name}: {of} = ["
     yield from laid_out("    " + line for line in lines)
     yield "];"
 

@@ -1,3 +1,2 @@
 pub mod TestsRight
-mod Scan
 pub mod OneAnswer

@@ -15,14 +15,12 @@ use Rattle.sorts.specs.declared.Form.{Form}
 use Rattle.sorts.specs.declared.Form.TheVariants.{Eight, Seven, Basic}
 use Rattle.sorts.specs.declared.Sort.{Sort}
 use Rattle.sorts.specs.declared.Sort.TheVariants.{Graphic, Mark, Underline, Shift, Control, SequenceStart, Refused}
-use Rattle.sorts.specs.declared.Found.TheVariants.{Char}
-use Rattle.sorts.specs.declared.Octet.{Octet}
-use Rattle.sorts.specs.declared.Octet.TheVariants.{Is, Absent}
+use Rattle.std.specs.Prelude.{Some, Option, None}
 use Rattle.sorts.specs.Cells.{octet, meaning, octet_in}
 use Rattle.sorts.specs.Forms.{alphabet_of, SS2, CC, CSI}
 use Rattle.sorts.specs.Sorts.{sort_in, shifted_in}
 use Rattle.squares.specs.Squares.{Square, sq, square_of, squares, character, pair_of}
-use Rattle.spelling.specs.CanonicalSpelling.{octets_of}
+use Rattle.spelling.specs.CanonicalSpelling.{spelt_octets}
 use Rattle.spelling.specs.SpellingGiven.{spell_in}
 use Rattle.sequence_reading.specs.Grammar.{Sequence, SpellsSequence}
 use Rattle.sequence_spelling.specs.SequenceOctets.{canonical_behind, spell_sequence}
@@ -44,7 +42,7 @@ use Rattle.element_spelling.proofs.Writer.{spell_graphic, spell_underlined, spel
 -- ---- the tests of a form's tables
 
 abbrev spelt : Form → ℕ → List ℕ
-spelt f c = octets_of (spell_in f c)
+spelt f c = spelt_octets (spell_in f c)
 
 abbrev follower : Square → ℕ
 follower (sq m l c) = l
@@ -53,9 +51,9 @@ abbrev mark_of : Square → ℕ
 mark_of (sq m l c) = m
 
 -- a pair of a mark that the form has, by what is said of its octet
-abbrev if_there : Octet → (ℕ → Bool) → Bool → Bool
-if_there (Is o) told wanted = told o
-if_there Absent told wanted = wanted
+abbrev if_there : Option ℕ → (ℕ → Bool) → Bool → Bool
+if_there (Some o) told wanted = told o
+if_there None told wanted = wanted
 
 -- of what stands after CC, in a form that has it
 abbrev if_underlines : Sort → Bool → Bool → Bool
@@ -163,11 +161,11 @@ module _ (f : Form) where
 
   -- ---- a pair
 
-  pub pair_test : (o m l c : ℕ) → sort_in f o ≡ Mark m → square_of m l ≡ Char c
+  pub pair_test : (o m l c : ℕ) → sort_in f o ≡ Mark m → square_of m l ≡ Some c
       → word_canonical f c l 2 ≡ is_canonical f (o ∷ l ∷ []) (One c)
   unfolding spell_element
   pair_test o m l c e q =
-      sym (ap (λ (x : Octet). if_there x (λ o. same_octets (o ∷ l ∷ []) (spelt f c)) (word_canonical f c l 2))
+      sym (ap (λ (x : Option ℕ). if_there x (λ o. same_octets (o ∷ l ∷ []) (spelt f c)) (word_canonical f c l 2))
       (sym (mark_first f o m e).is_it)
       ∙ at_member (λ s. if_there (octet_in (alphabet_of f).marks (mark_of s)) (λ o. same_octets (o ∷ follower s ∷ []) (spelt f (character s)))
       (word_canonical f (character s) (follower s) 2))
@@ -175,7 +173,7 @@ module _ (f : Form) where
       ∙ ap (same_octets (o ∷ l ∷ [])) (sym (spell_graphic f c (omega (arith, square_small m l c q))))
 
   -- of a character that is not of ASCII
-  pub high_pair_canonical : (o m l c : ℕ) → sort_in f o ≡ Mark m → square_of m l ≡ Char c → 0x80 ≤ c
+  pub high_pair_canonical : (o m l c : ℕ) → sort_in f o ≡ Mark m → square_of m l ≡ Some c → 0x80 ≤ c
       → is_canonical f (o ∷ l ∷ []) (One c) ≡ true
   high_pair_canonical o m l c e q h =
       sym (pair_test o m l c e q)
@@ -183,11 +181,11 @@ module _ (f : Form) where
       ∙ at_member (λ s. pick (leb 0x80 (character s)) (word_canonical f (character s) (follower s) 2) true) (λ s. true)
       (filled_member m l c q) (tested f).high_pair
 
-  pub shifted_pair_test : (s o m l c : ℕ) → sort_in f s ≡ Shift → shifted_in f o ≡ Mark m → square_of m l ≡ Char c
+  pub shifted_pair_test : (s o m l c : ℕ) → sort_in f s ≡ Shift → shifted_in f o ≡ Mark m → square_of m l ≡ Some c
       → word_canonical f c l 3 ≡ is_canonical f (s ∷ o ∷ l ∷ []) (One c)
   unfolding spell_element
   shifted_pair_test s o m l c k e q =
-      sym (ap (λ (x : Octet). if_there x (λ o. same_octets (SS2 ∷ o ∷ l ∷ []) (spelt f c)) (word_canonical f c l 3))
+      sym (ap (λ (x : Option ℕ). if_there x (λ o. same_octets (SS2 ∷ o ∷ l ∷ []) (spelt f c)) (word_canonical f c l 3))
       (sym (shifted_mark_first f o m e).is_it)
       ∙ at_member
       (λ s. if_there (octet_in (alphabet_of f).shifted_marks (mark_of s)) (λ o. same_octets (SS2 ∷ o ∷ follower s ∷ []) (spelt f (character s)))
@@ -196,12 +194,12 @@ module _ (f : Form) where
       ∙ ap₂ (λ (u : ℕ) (t : List ℕ). same_octets (u ∷ o ∷ l ∷ []) t) (sym (shift_is f s k).0)
       (sym (spell_graphic f c (omega (arith, square_small m l c q))))
 
-  pub underlined_pair_test : (u o m l c : ℕ) → sort_in f u ≡ Underline → sort_in f o ≡ Mark m → square_of m l ≡ Char c
+  pub underlined_pair_test : (u o m l c : ℕ) → sort_in f u ≡ Underline → sort_in f o ≡ Mark m → square_of m l ≡ Some c
       → word_canonical f (graphic_word true c) l 3 ≡ is_canonical f (u ∷ o ∷ l ∷ []) (One (graphic_word true c))
   unfolding spell_element
   underlined_pair_test u o m l c k e q =
       let w = word_canonical f (underlined_from + c) l 3 in
-      let same : Octet → Bool = λ x. if_there x (λ o. same_octets (CC ∷ o ∷ l ∷ []) (after_cc (spelt f c))) w in
+      let same : Option ℕ → Bool = λ x. if_there x (λ o. same_octets (CC ∷ o ∷ l ∷ []) (after_cc (spelt f c))) w in
       sym (ap same (sym (mark_first f o m e).is_it)
       ∙ ap (λ (x : Sort). if_underlines x (same (octet_in (alphabet_of f).marks m)) w) (sym (underlines u k))
       ∙ at_member

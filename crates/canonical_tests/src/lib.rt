@@ -7,20 +7,13 @@ use sorts::Form;
 
 // Of an element of one word: by the word, the last of its octets, and how many they are. 01: "One octet where the form has one, else the
 // pair": in forms 1 and 2 each character of ASCII has one. "Form 3 writes the number sign A6 and the currency sign A8", and not 23 and 24.
-#[tactic(auto, using(crate::proofs::Scan::basic_number_sign))]
 pub fn word_is_canonical(form: Form, word: u32, last: u8, size: usize) -> bool
     ensures { WordIsCanonicalPromise form word last size result }
 {
-    if let Form::Basic = form {
-        if last == 0x23 {
-            return false;
-        }
-        return last != 0x24;
+    match form {
+        Form::Basic => last != 0x23 && last != 0x24,
+        _ => 0x80 <= word || size == 1,
     }
-    if word < 0x80 {
-        return size == 1;
-    }
-    true
 }
 
 // Of a control sequence, by its octets: behind 9B each is of the lower half, and no value begins with the digit 0, behind 9B or behind a
@@ -28,22 +21,15 @@ pub fn word_is_canonical(form: Form, word: u32, last: u8, size: usize) -> bool
 pub fn sequence_is_canonical(octets: &[u8]) -> bool
     ensures { SequenceIsCanonicalPromise octets.now result }
 {
-    if 1 < octets.len() {
-        if octets[1] == 0x30 {
+    let [_, behind @ ..] = octets else {
+        return true;
+    };
+    let mut begins = true; // whether a value begins here
+    for &o in behind {
+        if 0x80 <= o || (begins && o == 0x30) {
             return false;
         }
-    }
-    let mut i = 1;
-    while i < octets.len() {
-        if 0x80 <= octets[i] {
-            return false;
-        }
-        if octets[i] == 0x30 {
-            if octets[i - 1] == 0x3B {
-                return false;
-            }
-        }
-        i += 1;
+        begins = o == 0x3B;
     }
     true
 }
@@ -52,8 +38,5 @@ pub fn sequence_is_canonical(octets: &[u8]) -> bool
 pub fn not_canonical(canonical: bool) -> usize
     ensures { NotCanonicalPromise canonical result }
 {
-    if canonical {
-        return 0;
-    }
-    1
+    usize::from(!canonical)
 }

@@ -2,56 +2,38 @@
 -- case.
 -- Assumes nothing.
 use Prim.Native.Nat.{ℕ, ◌≤◌}
-use mathlib.Core.Path.{◌≡◌, refl, sym, ap₂, subst, ◌∙◌}
+use mathlib.Core.Path.{◌≡◌, refl, sym, ap, ap₂, subst, ◌∙◌}
 use mathlib.Core.Logic.{◌↔◌}
 use mathlib.Core.Bool.{Bool, true, false}
-use mathlib.Core.List.{List, [], ◌∷◌}
+use mathlib.Core.List.{List}
 use native.Mathlib.Omega.{arith}
 use lib.Dec.{eqb, leb}
 use lib.ListN.{length, take}
-use borrow.Author.Tests.{eqb-true, eqb-false, leb-true, leb-false, eq-eqb}
-use Rattle.run.proofs.Choices.{both_true}
-use Rattle.sorts.specs.declared.FormFound.{FormFound}
-use Rattle.sorts.specs.declared.FormFound.TheVariants.{Is, Nothing}
+use lib.Pointwise.{bytes_decides}
+use borrow.Author.Tests.{eqb-true, eqb-false, leb-true, leb-false}
+use Rattle.std.proofs.Common.{Err}
+use Rattle.sorts.specs.declared.Form.{Form}
+use Rattle.std.specs.Prelude.{Option, Some, None}
 use Rattle.sorts.specs.Forms.{form_of}
-use Rattle.case_table.specs.declared.Header.{Header}
-use Rattle.case_table.specs.declared.Header.TheVariants.{Refused, Pages}
+use Rattle.case_table.specs.declared.HeaderFault.{HeaderFault}
+use Rattle.case_table.specs.declared.HeaderFault.TheVariants.{NoCase, OtherVersion, NoForm, WrongSize}
 use Rattle.case_table.specs.Layout.{Layout, version_1, mark, version_of, form_octet, page_count, header_part, table_part}
-use Rattle.case_table.specs.Check.{begins, header_in, header_of}
-use Rattle.case_table.specs.HeaderNumbers.{header_answer, header_form, header_pages, HeaderTable, HeaderTableOf}
+use Rattle.case_table.specs.Check.{Said, says, begins, header_in, header_of}
+use Rattle.case_table.specs.HeaderNumbers.{RefusedWith, fault_number, header_answer, header_form, header_pages, HeaderTable, HeaderTableOf}
 use Rattle.case_table.specs.Grammar.{Marked, Versioned, WithForm, TurnedBy, SoundIn, Turned, Sound, size_said}
-use Rattle.case_table.proofs.Headers.{Begun, Known, short, unmarked, other_version, no_form, many, wrong_size, right}
+use Rattle.case_table.proofs.Headers.{front_begins, Begun, Known, short, unmarked, other_version, no_form, many, wrong_size, right}
 use Rattle.sorts.proofs.FormNumbers.{found_is, is_found, none_exactly}
 
 -- ---- the mark
 
 mark_begins : (s : List ℕ) → take 3 s ≡ mark → begins mark s ≡ true
-unfolding begins
-mark_begins [] e = let z : ◌≡◌ {A = ℕ} 0 1 = cc in absurd (omega arith)
-mark_begins (a ∷ []) e = let z : ◌≡◌ {A = ℕ} 0 1 = cc in absurd (omega arith)
-mark_begins (a ∷ b ∷ []) e = let z : ◌≡◌ {A = ℕ} 0 1 = cc in absurd (omega arith)
-mark_begins (a ∷ b ∷ c ∷ s) e =
-    let p : 0x54 ≡ a = cc in
-    let q : 0x4C ≡ b = cc in
-    let r : 0x58 ≡ c = cc in
-    simp (eq-eqb 0x54 a p, eq-eqb 0x4C b q, eq-eqb 0x58 c r)
+mark_begins s e = sym (front_begins mark s) ∙ (bytes_decides mark (take 3 s)).1 (sym e)
+
+begins_mark : (s : List ℕ) → begins mark s ≡ true → take 3 s ≡ mark
+begins_mark s e = sym ((bytes_decides mark (take 3 s)).0 (front_begins mark s ∙ e))
 
 false_true : false ≡ true → ⊥
 false_true e = let z : ◌≡◌ {A = ℕ} 0 1 = cc in omega arith
-
-begins_mark : (s : List ℕ) → begins mark s ≡ true → take 3 s ≡ mark
-unfolding begins
-begins_mark [] e = absurd (false_true e)
-begins_mark (a ∷ []) e = absurd (false_true (both_true (eqb 0x54 a) false e).1)
-begins_mark (a ∷ b ∷ []) e = absurd (false_true (both_true (eqb 0x4C b) false (both_true (eqb 0x54 a) _ e).1).1)
-begins_mark (a ∷ b ∷ c ∷ s) e =
-    let p = both_true (eqb 0x54 a) _ e in
-    let q = both_true (eqb 0x4C b) _ p.1 in
-    let r = both_true (eqb 0x58 c) _ q.1 in
-    let ea = eqb-true 0x54 a p.0 in
-    let eb = eqb-true 0x4C b q.0 in
-    let ec = eqb-true 0x58 c r.0 in
-    cc
 
 no_mark : (s : List ℕ) (t : Bool) → begins mark s ≡ t → (take 3 s ≡ mark → ⊥) → t ≡ false
 no_mark s true e n = absurd (n (begins_mark s e))
@@ -59,9 +41,9 @@ no_mark s false e n = refl
 
 -- ---- which it is
 
-data Decided (layout : Layout) (header table : List ℕ) (size : ℕ) : Header → Type 0 where
-  turned : {r : ℕ} → TurnedBy layout header table size r → Decided layout header table size (Refused r)
-  sound : SoundIn layout header table size → Decided layout header table size (Pages (form_octet header) (page_count header))
+data Decided (layout : Layout) (header table : List ℕ) (size : ℕ) : Said → Type 0 where
+  turned : {fault : HeaderFault} → TurnedBy layout header table size (fault_number fault) → Decided layout header table size (Err fault)
+  sound : SoundIn layout header table size → Decided layout header table size (says (form_octet header) (page_count header))
 
 begun : {header : List ℕ} {size : ℕ} → Marked header size → Begun header size
 begun {header} w = record { eight = w.eight; marked = mark_begins header w.marked }
@@ -72,10 +54,10 @@ known {header = header} w =
     record { begun = begun w.before.before; version = w.before.version; the_form = f.0; is_form = f.1 }
 
 module _ (layout : Layout) (header table : List ℕ) (size : ℕ) where
-  abbrev asked : Header
+  abbrev asked : Said
   asked = header_in layout header table size
 
-  abbrev Says : Header → Type 0
+  abbrev Says : Said → Type 0
   Says = Decided layout header table size
 
   by_size : (w : WithForm layout header size) → page_count header ≤ 0x100 → (t : Bool) → eqb size (size_said layout header table) ≡ t
@@ -93,10 +75,10 @@ module _ (layout : Layout) (header table : List ℕ) (size : ℕ) where
       let z = leb-false (page_count header) 0x100 e in
       subst Says (many layout header table size (known w) z) (turned (TurnedBy.over_256 w z))
 
-  by_form : (w : Versioned layout header size) (y : FormFound) → form_of (form_octet header) ≡ y → Says asked
-  by_form w (Is f) q =
+  by_form : (w : Versioned layout header size) (y : Option Form) → form_of (form_octet header) ≡ y → Says asked
+  by_form w (Some f) q =
       by_pages (record { before = w; form = found_is (form_octet header) f q }) (leb (page_count header) 0x100) refl
-  by_form w Nothing q =
+  by_form w None q =
       subst Says (no_form layout header table size (begun w.before) w.version q)
       (turned (TurnedBy.no_form w ((none_exactly (form_octet header)).0 q)))
 
@@ -120,59 +102,62 @@ module _ (layout : Layout) (header table : List ℕ) (size : ℕ) where
   decided : Says asked
   decided = by_eight (leb 8 size) refl
 
-  row_of : {h : Header} → Says h → HeaderTable layout header table size (header_answer h) (header_form h) (header_pages h)
+  row_of : {h : Said} → Says h → HeaderTable layout header table size (header_answer h) (header_form h) (header_pages h)
   row_of (turned t) = HeaderTable.refused t
   row_of (sound s) = HeaderTable.right s
 
   -- what header and table say is a row of 01's numbers
-  pub row_in : {r : Header} → r ≡ header_in layout header table size
+  pub row_in : {r : Said} → r ≡ header_in layout header table size
       → HeaderTable layout header table size (header_answer r) (header_form r) (header_pages r)
   row_in e = row_of (subst Says (sym e) decided)
 
-  turned_of : {h : Header} → Says h → (r : ℕ) → h ≡ Refused r → TurnedBy layout header table size r
-  turned_of (turned {r = r₀} t) r q = let e : r₀ ≡ r = cc in subst (TurnedBy layout header table size) e t
-  turned_of (sound s) r q = let z : ◌≡◌ {A = ℕ} 0 1 = cc in absurd (omega arith)
+  turned_of : {h : Said} → Says h → (r : ℕ) → RefusedWith h r → TurnedBy layout header table size r
+  turned_of (turned {fault} t) r w =
+      let q = w.1 in
+      let i : fault ≡ w.0 = cc in
+      subst (TurnedBy layout header table size) (ap fault_number i ∙ w.2) t
+  turned_of (sound s) r w = let q = w.1 in let z : ◌≡◌ {A = ℕ} 0 1 = cc in absurd (omega arith)
 
-  sound_of : {h : Header} → Says h → (form n : ℕ) → h ≡ Pages form n
+  sound_of : {h : Said} → Says h → (form n : ℕ) → h ≡ says form n
       → SoundIn layout header table size × (form_octet header ≡ form) × (page_count header ≡ n)
   sound_of (turned t) form n q = let z : ◌≡◌ {A = ℕ} 0 1 = cc in absurd (omega arith)
-  sound_of (sound s) form n q = (s, cc, cc)
+  sound_of (sound s) form n q = (s, ap header_form q, ap header_pages q)
 
-  turned_refused : {r : ℕ} → TurnedBy layout header table size r → asked ≡ Refused r
-  turned_refused (TurnedBy.under_8 h) = sym (short layout header table size h)
+  turned_refused : {r : ℕ} → TurnedBy layout header table size r → RefusedWith asked r
+  turned_refused (TurnedBy.under_8 h) = (NoCase, sym (short layout header table size h), refl)
   turned_refused (TurnedBy.wrong_mark h n) =
-      sym (unmarked layout header table size h (no_mark header (begins mark header) refl n))
-  turned_refused (TurnedBy.other_version w n) = sym (other_version layout header table size (begun w) n)
+      (NoCase, sym (unmarked layout header table size h (no_mark header (begins mark header) refl n)), refl)
+  turned_refused (TurnedBy.other_version w n) = (OtherVersion, sym (other_version layout header table size (begun w) n), refl)
   turned_refused (TurnedBy.no_form w n) =
-      sym (no_form layout header table size (begun w.before) w.version ((none_exactly (form_octet header)).1 n))
-  turned_refused (TurnedBy.over_256 w h) = sym (many layout header table size (known w) h)
-  turned_refused (TurnedBy.wrong_size w h n) = sym (wrong_size layout header table size (known w) h n)
+      (NoForm, sym (no_form layout header table size (begun w.before) w.version ((none_exactly (form_octet header)).1 n)), refl)
+  turned_refused (TurnedBy.over_256 w h) = (WrongSize, sym (many layout header table size (known w) h), refl)
+  turned_refused (TurnedBy.wrong_size w h n) = (WrongSize, sym (wrong_size layout header table size (known w) h n), refl)
 
-  sound_header : SoundIn layout header table size → asked ≡ Pages (form_octet header) (page_count header)
+  sound_header : SoundIn layout header table size → asked ≡ says (form_octet header) (page_count header)
   sound_header s = sym (right layout header table size (known s.before) s.few s.size_is_said)
 
   -- 13, 14, 11 and 15 are given exactly when the table and its order say so
-  pub turned_in : (r : ℕ) → (header_in layout header table size ≡ Refused r) ↔ TurnedBy layout header table size r
-  turned_in r = (λ q. turned_of decided r q, turned_refused)
+  pub turned_in : (r : ℕ) → RefusedWith (header_in layout header table size) r ↔ TurnedBy layout header table size r
+  turned_in r = (turned_of decided r, turned_refused)
 
   -- and otherwise header and table are right, with the form and the count that they say
   pub sound_in : (form n : ℕ)
-      → (header_in layout header table size ≡ Pages form n)
+      → (header_in layout header table size ≡ says form n)
       ↔ (SoundIn layout header table size × (form_octet header ≡ form) × (page_count header ≡ n))
-  sound_in form n = (λ q. sound_of decided form n q, λ s. sound_header s.0 ∙ ap₂ Pages s.1 s.2)
+  sound_in form n = (λ q. sound_of decided form n q, λ s. sound_header s.0 ∙ ap₂ says s.1 s.2)
 
 -- ---- a whole case
 
 module _ (case : List ℕ) where
-  pub turned_exactly : (r : ℕ) → (header_of case ≡ Refused r) ↔ Turned case r
+  pub turned_exactly : (r : ℕ) → RefusedWith (header_of case) r ↔ Turned case r
   unfolding header_of
   turned_exactly = turned_in version_1 (header_part case) (table_part version_1 case) (length case)
 
   pub sound_exactly : (form n : ℕ)
-      → (header_of case ≡ Pages form n) ↔ (Sound case × (form_octet (header_part case) ≡ form) × (page_count (header_part case) ≡ n))
+      → (header_of case ≡ says form n) ↔ (Sound case × (form_octet (header_part case) ≡ form) × (page_count (header_part case) ≡ n))
   unfolding header_of
   sound_exactly = sound_in version_1 (header_part case) (table_part version_1 case) (length case)
 
-  pub row_exactly : {r : Header} → r ≡ header_of case → HeaderTableOf case (header_answer r) (header_form r) (header_pages r)
+  pub row_exactly : {r : Said} → r ≡ header_of case → HeaderTableOf case (header_answer r) (header_form r) (header_pages r)
   unfolding header_of
   row_exactly e = row_in version_1 (header_part case) (table_part version_1 case) (length case) e

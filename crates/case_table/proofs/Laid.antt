@@ -11,11 +11,10 @@ use lib.ListN.{length, take, drop, get_or, length-append, length-take, length-dr
 use lib.Dec.{lit<}
 use lib.Seq.{get_or-drop, get_or-take, take-append_seam, drop-append_seam, drop-drop, length-take-le, drop_at}
 use Rattle.run.specs.Answers.{given}
-use Rattle.case_table.specs.declared.Header.TheVariants.{Pages}
 use Rattle.case_table.specs.Layout.{version_1, mark, big16, page_count, header, lengths_in, total, of_form, cut, header_part, table_part}
 use Rattle.case_table.specs.Layout.{sizes, joined, case_of, case_with}
 use Rattle.case_table.specs.PagePlaces.{Right, behind_header}
-use Rattle.case_table.specs.Check.{header_of, lengths_of, pages_of}
+use Rattle.case_table.specs.Check.{says, header_of, lengths_of, pages_of}
 use Rattle.case_table.specs.Grammar.{Octets, CaseOf, Sound, size_said}
 use Rattle.case_table.proofs.Lengths.{lengths_take}
 use Rattle.case_table.proofs.Checked.{sound_exactly}
@@ -157,7 +156,7 @@ module _ (form : ℕ) (lengths octets : List ℕ) (i : IsForm form) (few : lengt
       }
 
   -- header and table say the form and how many pages
-  pub header_says : header_of whole ≡ Pages form (length lengths)
+  pub header_says : header_of whole ≡ says form (length lengths)
   header_says = (sound_exactly whole form (length lengths)).1 (whole_sound, refl, count_said)
 
   -- the table says the lengths
@@ -248,11 +247,11 @@ module _ (case : List ℕ) (form : ℕ) (pages : List (List ℕ)) (laid : CaseOf
   its_parts = laid.is ∙ case_parts form pages
 
   -- a case is read as its parts: the form, how many pages, and each page, which is of that form
-  pub case_header : header_of case ≡ Pages form (length pages)
+  pub case_header : header_of case ≡ says form (length pages)
   case_header =
       ap header_of its_parts
       ∙ header_says form (sizes pages) (joined pages) laid.is_form its_few (sym (joined_length pages))
-      ∙ ap (Pages form) (length-map pages length)
+      ∙ ap (says form) (length-map pages length)
 
   pub case_pages : pages_of case ≡ of_form form pages
   case_pages =
@@ -262,10 +261,10 @@ module _ (case : List ℕ) (form : ℕ) (pages : List (List ℕ)) (laid : CaseOf
 
 -- Header and table are right exactly when the octets are the case of a form and pages.
 pub laid_exactly : (case : List ℕ) → Octets case → (form n : ℕ)
-    → (header_of case ≡ Pages form n) ↔ ((pages : List (List ℕ)) × (length pages ≡ n) × CaseOf case form pages)
-laid_exactly case o form n = (forth, λ c. case_header case form c.0 c.2 ∙ ap (Pages form) c.1)
+    → (header_of case ≡ says form n) ↔ ((pages : List (List ℕ)) × (length pages ≡ n) × CaseOf case form pages)
+laid_exactly case o form n = (forth, λ c. case_header case form c.0 c.2 ∙ ap (says form) c.1)
   where
-    forth : header_of case ≡ Pages form n → (pages : List (List ℕ)) × (length pages ≡ n) × CaseOf case form pages
+    forth : header_of case ≡ says form n → (pages : List (List ℕ)) × (length pages ≡ n) × CaseOf case form pages
     forth q =
         let lengths = lengths_in version_1 n (behind_header case) in
         let octets = drop (8 + 2 * n) case in (

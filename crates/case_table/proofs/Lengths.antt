@@ -80,33 +80,6 @@ total_fewer zero n s h = omega arith
 total_fewer (suc k) zero s h = absurd (omega arith)
 total_fewer (suc k) (suc n) s h = omega (arith, total_fewer k n (drop 2 s) (le_of_suc-le-suc h))
 
--- what the loop over the entries keeps
-pub record Summed (table : List ℕ) (n i sum : ℕ) : Type 0 where
-  pub inside : i ≤ n
-  pub small : sum ≤ 65535 * i
-  pub is : sum ≡ total (lengths_in version_1 i table)
-
-pub summed_none : (table : List ℕ) (n : ℕ) → Summed table n 0 0
-unfolding lengths_in total
-summed_none table n = record { inside = omega arith; small = omega arith; is = refl }
-
-pub summed_turn : {table : List ℕ} {n i sum r : ℕ} → i < n → Summed table n i sum → (r ≡ number16 table (2 * i)) × (r < 0x10000)
-    → Summed table n (i + 1) (sum + r)
-summed_turn {table} {n} {i} {sum} {r} h s e =
-    record {
-      inside = omega arith;
-      small = omega (arith, s.small, e.1);
-      is = omega (arith, s.is, e.0, total_next i table);
-    }
-
-pub summed_all : {table : List ℕ} {n i sum : ℕ} → n ≤ 256 → n ≤ i → Summed table n i sum
-    → (sum ≡ total_in version_1 n table) × (sum ≤ 65535 * n) × (sum ≤ 16776960)
-unfolding total_in
-summed_all {table} {n} {i} {sum} f h s =
-    let e : i ≡ n = omega (arith, s.inside) in
-    let q = ap (λ (k : ℕ). total (lengths_in version_1 k table)) e in
-    (s.is ∙ q ∙ sym (rw (le-leb n 0x100 f)), omega (arith, s.small), omega (arith, s.small))
-
 pub total_many : (table : List ℕ) (n : ℕ) → 256 < n → ◌≡◌ {A = ℕ} 0 (total_in version_1 n table)
 unfolding total_in
 total_many table n h = sym (rw (lt-leb n 0x100 h))

@@ -5,14 +5,13 @@ use mathlib.Core.Path.{◌≡◌, sym, ap, ap₂, ◌∙◌}
 use mathlib.Core.List.{List, [], ◌∷◌}
 use native.Mathlib.Numerals.{add-one}
 use native.Mathlib.Omega.{arith}
-use lib.ListN.{length, take, drop, get_or, length-drop}
-use lib.Seq.{drop-drop, drop-cons, length-take-le}
+use lib.ListN.{length, take, drop, get_or}
+use lib.Seq.{drop-drop, drop-cons}
 use Rattle.run.proofs.Puts.{behind_is}
 use Rattle.sorts.specs.Forms.{form_of}
-use Rattle.case_table.specs.declared.Header.TheVariants.{Pages}
 use Rattle.case_table.specs.Layout.{version_1, number16, form_octet, page_count, lengths_in, total, of_form, cut, pages_in, header_part}
 use Rattle.case_table.specs.Layout.{table_part, pages_part}
-use Rattle.case_table.specs.Check.{total_in, header_of, lengths_of, pages_of}
+use Rattle.case_table.specs.Check.{says, total_in, header_of, lengths_of, pages_of}
 use Rattle.case_table.specs.PagePlaces.{behind_header, total_before, between, Right}
 use Rattle.case_table.proofs.Lengths.{lengths_take, total_few, pages_cut_out, pages_count, page_at, said_behind, total_next}
 use Rattle.case_table.proofs.Lengths.{total_fewer}
@@ -26,7 +25,7 @@ table_lengths : (case : List ℕ) → lengths_of case ≡ lengths_in version_1 (
 unfolding lengths_of
 table_lengths case = lengths_take version_1 (page_count (header_part case)) (behind_header case)
 
-pub right_header : (case : List ℕ) (form pages : ℕ) → header_of case ≡ Pages form pages → Right case form pages
+pub right_header : (case : List ℕ) (form pages : ℕ) → header_of case ≡ says form pages → Right case form pages
 unfolding lengths_of
 right_header case form pages q =
     let s = (sound_exactly case form pages).0 q in
@@ -86,11 +85,6 @@ module _ {case : List ℕ} {form pages page start len : ℕ} (right : Right case
   page_inside =
       let l : page + 1 ≤ pages = omega arith in
       omega (arith, start_next, right.size, total_fewer (page + 1) pages (behind_header case) l)
-
-  pub between_length : length (between case start (start + len)) ≡ len
-  between_length =
-      let k : start + len - start ≡ len = omega arith in
-      length-take-le (start + len - start) (drop start case) (omega (arith, length-drop start case, page_inside)) ∙ k
 
   pub page_is : (other : ℕ × List ℕ) → get_or (pages_of case) page other ≡ (form, between case start (start + len))
   page_is other =

@@ -8,11 +8,10 @@ use native.Mathlib.Omega.{arith}
 use lib.Dec.{lit<}
 use lib.ListN.{length}
 use Rattle.run.specs.declared.Answer.{Answer}
-use Rattle.case_table.specs.declared.Header.{Header}
-use Rattle.case_table.specs.declared.Header.TheVariants.{Pages}
 use Rattle.case_table.specs.Layout.{Layout, version_1}
+use Rattle.case_table.specs.Check.{Said, says}
 use Rattle.case_table.specs.Grammar.{CaseOf, TurnedBy, SoundIn, Turned, Sound}
-use Rattle.case_table.specs.HeaderNumbers.{header_answer, HeaderTable}
+use Rattle.case_table.specs.HeaderNumbers.{RefusedWith, header_answer, HeaderTable}
 use Rattle.case_table.specs.Promises.{HeaderInPromise, HeaderOfPromise}
 use Rattle.case_table.proofs.Checked.{turned_in, sound_in, turned_exactly, sound_exactly}
 use Rattle.case_table.proofs.Laid.{laid_exactly}
@@ -39,16 +38,19 @@ module _ {layout : Layout} {header table : List ℕ} {size : ℕ} where
   row_sound (HeaderTable.refused t) e = absurd (omega (arith, (turned_number t).0))
   row_sound (HeaderTable.right s) e = s
 
-abbrev number : Header → ℕ
+abbrev number : Said → ℕ
 number r = (header_answer r).number
+
+with_number : {r asked : Said} {n : ℕ} → r ≡ asked → RefusedWith asked n → number r ≡ n
+with_number e w = ap number (e ∙ w.1) ∙ w.2
 
 -- ---- of header, table and size
 
-module _ (header table : List ℕ) (size : ℕ) (r : Header) (promise : HeaderInPromise header table size r) where
+module _ (header table : List ℕ) (size : ℕ) (r : Said) (promise : HeaderInPromise header table size r) where
   -- 13, 14, 11 and 15 are given exactly when the table and its order say so,
   pub header_in_turned : (n : ℕ) → 0 < n → ((header_answer r).number ≡ n) ↔ TurnedBy version_1 header table size n
   header_in_turned n h =
-      (row_turned promise.1 n h, λ t. ap number (promise.0 ∙ (turned_in version_1 header table size n).1 t))
+      (row_turned promise.1 n h, λ t. with_number promise.0 ((turned_in version_1 header table size n).1 t))
 
   -- and 0 exactly when none of them is.
   pub header_in_right : ((header_answer r).number ≡ 0) ↔ SoundIn version_1 header table size
@@ -57,15 +59,15 @@ module _ (header table : List ℕ) (size : ℕ) (r : Header) (promise : HeaderIn
 
 -- ---- of a whole case
 
-module _ (case : List ℕ) (r : Header) (promise : HeaderOfPromise case r) where
+module _ (case : List ℕ) (r : Said) (promise : HeaderOfPromise case r) where
   pub header_of_turned : (n : ℕ) → 0 < n → ((header_answer r).number ≡ n) ↔ Turned case n
-  header_of_turned n h = (row_turned promise.1 n h, λ t. ap number (promise.0 ∙ (turned_exactly case n).1 t))
+  header_of_turned n h = (row_turned promise.1 n h, λ t. with_number promise.0 ((turned_exactly case n).1 t))
 
   pub header_of_right : ((header_answer r).number ≡ 0) ↔ Sound case
   header_of_right = (row_sound promise.1, λ s. ap number (promise.0 ∙ (sound_exactly case _ _).1 (s, refl, refl)))
 
   -- The form and the page count are answered exactly when the octets are the case of that form and of so many pages.
-  pub header_of_laid : (form n : ℕ) → (r ≡ Pages form n) ↔ ((pages : List (List ℕ)) × (length pages ≡ n) × CaseOf case form pages)
+  pub header_of_laid : (form n : ℕ) → (r ≡ says form n) ↔ ((pages : List (List ℕ)) × (length pages ≡ n) × CaseOf case form pages)
   header_of_laid form n =
       let l = laid_exactly case promise.2 form n in
       (λ e. l.0 (sym promise.0 ∙ e), λ p. promise.0 ∙ l.1 p)

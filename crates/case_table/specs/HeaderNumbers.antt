@@ -1,27 +1,39 @@
 -- To be believed: document 01's number of each answer of a header's check, with the form and the page count that it says, and when each is
 -- given. Nothing here speaks of a reader.
 -- Assumes nothing.
-use Rattle.std.specs.Prelude.{ℕ, List, length}
+use Rattle.std.specs.Prelude.{ℕ, ◌≡◌, List, length, Result, Ok, Err}
 use Rattle.run.specs.declared.Answer.{Answer}
 use Rattle.run.specs.Answers.{bare}
 use Rattle.case_table.specs.declared.Header.{Header}
-use Rattle.case_table.specs.declared.Header.TheVariants.{Refused, Pages}
+use Rattle.case_table.specs.declared.HeaderFault.{HeaderFault}
+use Rattle.case_table.specs.declared.HeaderFault.TheVariants.{NoCase, OtherVersion, NoForm, WrongSize}
 use Rattle.case_table.specs.Layout.{Layout, version_1, form_octet, page_count, header_part, table_part}
 use Rattle.case_table.specs.Grammar.{TurnedBy, SoundIn}
 
+-- 01's number of each refusal
+abbrev pub fault_number : HeaderFault → ℕ
+fault_number NoCase = 13
+fault_number OtherVersion = 14
+fault_number NoForm = 11
+fault_number WrongSize = 15
+
 -- 01's number of each answer, which carries no place, element or count
-abbrev pub header_answer : Header → Answer
-header_answer (Refused r) = bare r
-header_answer (Pages form n) = bare 0
+abbrev pub header_answer : Result Header HeaderFault → Answer
+header_answer (Err fault) = bare (fault_number fault)
+header_answer (Ok h) = bare 0
 
 -- its values, "TLX 1 pages 2": the form, and how many pages; a refusal says neither
-abbrev pub header_form : Header → ℕ
-header_form (Refused r) = 0
-header_form (Pages form n) = form
+abbrev pub header_form : Result Header HeaderFault → ℕ
+header_form (Err fault) = 0
+header_form (Ok h) = h.form
 
-abbrev pub header_pages : Header → ℕ
-header_pages (Refused r) = 0
-header_pages (Pages form n) = n
+abbrev pub header_pages : Result Header HeaderFault → ℕ
+header_pages (Err fault) = 0
+header_pages (Ok h) = h.pages
+
+-- the answer is a refusal, with this number
+abbrev pub RefusedWith : Result Header HeaderFault → ℕ → Type 0
+RefusedWith r n = (fault : HeaderFault) × (r ≡ Err fault) × (fault_number fault ≡ n)
 
 -- which number and values are given
 pub data HeaderTable (layout : Layout) (header table : List ℕ) (size : ℕ) : Answer → ℕ → ℕ → Type 0 where

@@ -5,38 +5,67 @@ ghost use Rattle.std.specs.Prelude.{◌≡◌, ◌<◌, get_or};
 ghost use Rattle.case_table.specs.Layout.{mark};
 ghost use Rattle.case_table.specs.Check.{begins};
 ghost use Rattle.case_table.specs.Grammar.{Octets};
-ghost use Rattle.case_table.specs.Promises.{NumberAtPromise, TotalOfPromise, HeaderInPromise, HeaderOfPromise};
+ghost use Rattle.case_table.specs.Promises.{NumberPromise, NumberAtPromise, TotalOfPromise, HeaderInPromise, HeaderOfPromise};
 
-use sorts::FormFound;
+use sorts::Form;
+use std::error::Error;
+use std::fmt;
 
-// What the header and the table of a case say.
+// What the header of a case says, where header and table are right.
 #[derive(Clone, Copy)]
-pub enum Header {
-    // 13, 14, 11 or 15
-    Refused(usize),
-    // the form's number, and how many pages
-    Pages { form: u32, pages: usize },
+pub struct Header {
+    // the form's number
+    pub form: u32,
+    // how many pages
+    pub pages: usize,
 }
 
-// The first octet; 0 where there is none. That every entry of a slice is below 256 is known once one of them is read with a cast: the
-// promise says it of all, and `header_of` calls for that alone, as the theorems of a case begin with it.
-fn first_octet(octets: &[u8]) -> usize
-    ensures { (result ≡ get_or octets.now 0 0) × Octets octets.now }
-{
-    if octets.len() == 0 {
-        return 0;
-    }
-    octets[0] as usize
+// Why header or table is refused.
+#[derive(Clone, Copy, Debug, PartialEq, Eq)]
+pub enum HeaderFault {
+    // "case under 8 octets, or wrong mark"
+    NoCase,
+    // "case version not 1"
+    OtherVersion,
+    // "form not 1 to 3"
+    NoForm,
+    // "over 256 pages, or size wrong"
+    WrongSize,
 }
+
+impl HeaderFault {
+    // 01's number of it.
+    pub fn number(self) -> usize
+        ensures { NumberPromise self result }
+    {
+        match self {
+            HeaderFault::NoCase => 13,
+            HeaderFault::OtherVersion => 14,
+            HeaderFault::NoForm => 11,
+            HeaderFault::WrongSize => 15,
+        }
+    }
+}
+
+// What it is, in 01's words.
+impl fmt::Display for HeaderFault {
+    fn fmt<W: fmt::Write>(&self, f: &mut fmt::Formatter<W>) -> fmt::Result {
+        match self {
+            HeaderFault::NoCase => write!(f, "case under 8 octets, or wrong mark"),
+            HeaderFault::OtherVersion => write!(f, "case version not 1"),
+            HeaderFault::NoForm => write!(f, "form not 1 to 3"),
+            HeaderFault::WrongSize => write!(f, "over 256 pages, or size wrong"),
+        }
+    }
+}
+
+impl Error for HeaderFault {}
 
 // The octet at a place; 0 where there is none.
 fn octet_at(octets: &[u8], at: usize) -> usize
     ensures { (result ≡ get_or octets.now at 0) × (result < 0x100) }
 {
-    if octets.len() <= at {
-        return 0;
-    }
-    octets[at] as usize
+    octets.get(at).copied().unwrap_or(0) as usize
 }
 
 // 01: "big-endian 16-bit": the number in the two octets from a place on; an octet that is not there says 0.
@@ -55,17 +84,7 @@ pub fn number_at(octets: &[u8], at: usize) -> usize
 fn is_marked(header: &[u8]) -> bool
     ensures { result ≡ begins mark header.now }
 {
-    let mark = b"TLX";
-    if header.len() < 3 {
-        return false;
-    }
-    if header[0] != mark[0] {
-        return false;
-    }
-    if header[1] != mark[1] {
-        return false;
-    }
-    header[2] == mark[2]
+    header.starts_with(b"TLX")
 }
 
 // The first lengths of a table, added up; 0 of more pages than a case may have.
@@ -75,50 +94,40 @@ pub fn total_of(table: &[u8], n: usize) -> usize
     if 256 < n {
         return 0;
     }
-    let mut i = 0;
     let mut sum = 0;
-    while i < n {
+    for i in 0..n {
         sum += number_at(table, 2 * i);
-        i += 1;
     }
     sum
 }
 
 // What header and table say of a case of so many octets. 01's order of refusals: 13, 14, 11, 15.
-pub fn header_in(header: &[u8], table: &[u8], size: usize) -> Header
+pub fn header_in(header: &[u8], table: &[u8], size: usize) -> Result<Header, HeaderFault>
     ensures { HeaderInPromise header.now table.now size result }
 {
-    if size < 8 {
-        return Header::Refused(13);
-    }
-    if !is_marked(header) {
-        return Header::Refused(13);
+    if size < 8 || !is_marked(header) {
+        return Err(HeaderFault::NoCase);
     }
     if number_at(header, 3) != 1 {
-        return Header::Refused(14);
+        return Err(HeaderFault::OtherVersion);
     }
     let form = octet_at(header, 5) as u32;
-    let found = sorts::form_of(form);
-    let FormFound::Is(_) = found else {
-        return Header::Refused(11);
+    let Ok(_) = Form::try_from(form) else {
+        return Err(HeaderFault::NoForm);
     };
     let pages = number_at(header, 6);
-    if 256 < pages {
-        return Header::Refused(15);
+    if 256 < pages || size != 8 + 2 * pages + total_of(table, pages) {
+        return Err(HeaderFault::WrongSize);
     }
-    if size != 8 + 2 * pages + total_of(table, pages) {
-        return Header::Refused(15);
-    }
-    Header::Pages { form, pages }
+    Ok(Header { form, pages })
 }
 
 // The same of a whole case, cut into its parts.
-pub fn header_of(case: &[u8]) -> Header
+pub fn header_of(case: &[u8]) -> Result<Header, HeaderFault>
     ensures { HeaderOfPromise case.now result }
 {
-    first_octet(case);
     if case.len() < 8 {
-        return Header::Refused(13);
+        return Err(HeaderFault::NoCase);
     }
     header_in(&case[..8], &case[8..], case.len())
 }

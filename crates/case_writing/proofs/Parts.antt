@@ -1,75 +1,59 @@
 -- The laws of what a case is written from: the lengths and the octets, entry after entry.
 -- Assumes nothing.
-use Prim.Native.Nat.{ℕ, ◌+◌, ◌*◌, ◌≤◌, ◌<◌}
-use mathlib.Core.Path.{◌≡◌, refl, sym, ap, ◌∙◌}
-use mathlib.Core.Bool.{Bool, true, false}
+use Prim.Native.Nat.{ℕ, ◌+◌, ◌-◌, ◌*◌, ◌≤◌, ◌<◌}
+use mathlib.Core.Path.{◌≡◌, refl, sym, ap, ap₂, ◌∙◌}
+use mathlib.Core.Bool.{Bool, true, false, ◌&&◌}
 use mathlib.Core.List.Memᴰ
-use mathlib.Core.List.{List, [], ◌∷◌, ◌++◌, Memᴰ}
-use native.Mathlib.Nat.{zero-add}
-use native.Mathlib.Numerals.{add-one}
+use mathlib.Core.List.{List, [], ◌∷◌, ◌++◌, append_assoc, Memᴰ}
 use native.Mathlib.Omega.{arith}
 use lib.Dec.{eqb, leb}
-use lib.ListN.{length, take, drop, get_or, drop_of_length-le}
-use lib.Seq.{take-suc, take_all, length-take-le}
+use Rattle.std.proofs.Common.{sum, nat_le}
+use Rattle.std.specs.List.{list_all}
+use Rattle.std.proofs.lemmas.List.Sums.{sum_by-cons}
+use Rattle.std.proofs.lemmas.List.{take_more}
+use lib.ListN.{length, take, drop, get_or}
+use lib.Seq.{length-take-le, drop-drop, sets-eq}
+use borrow.Rule.Slice.PartMut.{put_mid}
 use borrow.Author.Tests.{leb-true, eqb-true, le-leb, lt-leb}
 use Rattle.run.specs.Choice.{pick}
 use Rattle.run.specs.Answers.{given}
 use Rattle.run.specs.Put.{Put}
 use Rattle.run.proofs.Answers.{given_one}
 use Rattle.run.proofs.Choices.{both_true}
-use Rattle.run.proofs.FromPlace.{at_place}
-use Rattle.run.proofs.Puts.{put_none, put_both, put_as}
 use Rattle.case_table.specs.Layout.{total, big16}
 use Rattle.case_table.proofs.Laid.{table_length}
 use Rattle.case_writing.specs.FromParts.{none_over, fitting}
 
--- ---- the lengths tested, entry after entry
+-- ---- the lengths tested
 
--- what stays to be tested after i lengths, whose sum is known
-pub record Tested (lengths : List ℕ) (i sum : ℕ) : Type 0 where
-  pub few : length lengths ≤ 0x100
-  pub inside : i ≤ length lengths
-  pub small : sum ≤ 65535 * i
-  pub none_over_lem : none_over 0xFFFF lengths ≡ none_over 0xFFFF (drop i lengths)
-  pub left : total lengths ≡ sum + total (drop i lengths)
+-- the library's test and sum of a list
+all_short : (ns : List ℕ) → list_all (λ n. nat_le n 0xFFFF) ns ≡ none_over 0xFFFF ns
+unfolding none_over
+all_short [] = refl
+all_short (n ∷ ns) = by (leb n 0xFFFF) (all_short ns)
+  where
+    by : (t : Bool) {a b : Bool} → a ≡ b → (t && a) ≡ pick t b false
+    by true e = e
+    by false e = refl
 
-pub tested_none : (lengths : List ℕ) → length lengths ≤ 0x100 → Tested lengths 0 0
-tested_none lengths h =
-    record { few = h; inside = omega arith; small = omega arith; none_over_lem = refl; left = sym (zero-add (total lengths)) }
+sum_total : (ns : List ℕ) → sum ns ≡ total ns
+unfolding total
+sum_total [] = refl
+sum_total (n ∷ ns) = sum_by-cons (λ k. k) n ns ∙ ap (λ (k : ℕ). n + k) (sum_total ns)
 
-pub over_many : (lengths : List ℕ) (size : ℕ) → 0x100 < length lengths → false ≡ fitting lengths size
-unfolding fitting
-over_many lengths size h = sym (simp (lt-leb (length lengths) 0x100 h))
+module _ (lengths : List ℕ) (size : ℕ) where
+  pub over_many : 0x100 < length lengths → false ≡ fitting lengths size
+  unfolding fitting
+  over_many h = sym (simp (lt-leb (length lengths) 0x100 h))
 
-module _ (lengths : List ℕ) (i sum : ℕ) (was : Tested lengths i sum) where
-  module _ (h : i < length lengths) where
-    on : drop i lengths ≡ get_or lengths i 0 ∷ drop (i + 1) lengths
-    on = at_place lengths i h
+  module _ (few : length lengths ≤ 0x100) (t : Bool) (e : t ≡ list_all (λ n. nat_le n 0xFFFF) lengths) where
+    pub over_long : t ≡ false → t ≡ fitting lengths size
+    unfolding fitting
+    over_long q = q ∙ sym (simp (le-leb (length lengths) 0x100 few, sym (all_short lengths) ∙ sym e ∙ q))
 
-    pub tested_turn : get_or lengths i 0 ≤ 65535 → Tested lengths (i + 1) (sum + get_or lengths i 0)
-    unfolding none_over total
-    tested_turn l =
-        record {
-          few = was.few;
-          inside = omega arith;
-          small = omega (arith, was.small);
-          none_over_lem = was.none_over_lem ∙ ap (none_over 0xFFFF) on ∙ simp (le-leb (get_or lengths i 0) 0xFFFF l);
-          left = omega (arith, was.left, ap total on);
-        }
-
-    pub over_long : (size : ℕ) → 65535 < get_or lengths i 0 → false ≡ fitting lengths size
-    unfolding fitting none_over
-    over_long size l =
-        let e : none_over 0xFFFF lengths ≡ false = was.none_over_lem ∙ ap (none_over 0xFFFF) on ∙ simp (lt-leb (get_or lengths i 0) 0xFFFF l) in
-        sym (simp (le-leb (length lengths) 0x100 was.few, e))
-
-  pub tested_all : (size : ℕ) → length lengths ≤ i → eqb sum size ≡ fitting lengths size
-  unfolding fitting none_over total
-  tested_all size h =
-      let z : drop i lengths ≡ [] = drop_of_length-le lengths h in
-      let e : none_over 0xFFFF lengths ≡ true = was.none_over_lem ∙ ap (none_over 0xFFFF) z in
-      let s : total lengths ≡ sum = omega (arith, was.left, ap total z) in
-      sym (simp (le-leb (length lengths) 0x100 was.few, e, s))
+    pub adds_up : t ≡ true → (s : ℕ) → s ≡ sum lengths → eqb s size ≡ fitting lengths size
+    unfolding fitting
+    adds_up q s i = sym (simp (le-leb (length lengths) 0x100 few, sym (all_short lengths) ∙ sym e ∙ q, sym (i ∙ sum_total lengths)))
 
 -- ---- what fitting lengths are
 
@@ -111,39 +95,27 @@ fits_small lengths size f = omega (arith, f.few, f.sum, total_most lengths (none
 
 -- ---- entries written, one after another
 
-module _ (out₀ : List ℕ) (at : ℕ) (gives : ℕ → List ℕ) (ns : List ℕ) where
-  -- what the first i of the numbers give stands from the place on
-  pub record Given (out : List ℕ) (i o : ℕ) : Type 0 where
-    pub inside : i ≤ length ns
-    pub put : Put out₀ at (given gives (take i ns)) out o
+-- entries that were copied over a part of the buffer are put there
+pub copied : {out entries part : List ℕ} {at : ℕ} → at + length entries ≤ length out → part ≡ entries
+    → Put out at entries (put_mid at (at + length entries - at) out part) (at + length entries)
+copied {out} {entries} {part} {at} h e =
+    let n : at + length entries - at ≡ length entries = omega arith in
+    record {
+      place = refl;
+      holds =
+          ap₂ (λ (k : ℕ) (l : List ℕ). put_mid at k out l) n e
+          ∙ ap (λ (l : List ℕ). take at out ++ (entries ++ l)) (drop-drop (length entries) at out)
+          ∙ sym (append_assoc (take at out) entries (drop (at + length entries) out))
+          ∙ sym (sets-eq entries out at h);
+    }
 
-  pub given_none : Given out₀ 0 at
-  unfolding given
-  given_none = record { inside = omega arith; put = put_none out₀ at }
-
-  given_on : (i : ℕ) → i < length ns → given gives (take (i + 1) ns) ≡ given gives (take i ns) ++ gives (get_or ns i 0)
-  given_on i h =
-      ap (λ (k : ℕ). given gives (take k ns)) (add-one i)
-      ∙ ap (given gives) (take-suc ns i 0 h)
-      ∙ given_one gives (take i ns) (get_or ns i 0)
-
-  pub given_turn : (out : List ℕ) (i o : ℕ) → Given out i o → i < length ns
-      → (out' : List ℕ) (o' : ℕ) → Put out o (gives (get_or ns i 0)) out' o' → Given out' (i + 1) o'
-  given_turn out i o was h out' o' p =
-      record { inside = omega arith; put = put_as (sym (given_on i h)) (put_both was.put p) }
-
-  pub given_all : (out : List ℕ) (i o : ℕ) → Given out i o → length ns ≤ i → Put out₀ at (given gives ns) out o
-  given_all out i o was h = put_as (ap (given gives) (take_all i ns h)) was.put
-
-pub singly : (ns : List ℕ) → given (λ (n : ℕ). n ∷ []) ns ≡ ns
-unfolding given
-singly [] = refl
-singly (n ∷ ns) = ap (λ (l : List ℕ). n ∷ l) (singly ns)
+-- one entry of the table more
+pub table_more : (ns : List ℕ) (i : ℕ) → i < length ns → given big16 (take i ns) ++ big16 (get_or ns i 0) ≡ given big16 (take (i + 1) ns)
+table_more ns i h = sym (ap (given big16) (take_more ns i 0 h) ∙ given_one big16 (take i ns) (get_or ns i 0))
 
 -- where the next entry goes
-pub single_place : {out₀ : List ℕ} {at : ℕ} {ns out : List ℕ} {i o : ℕ} → Given out₀ at (λ (n : ℕ). n ∷ []) ns out i o → o ≡ at + i
-single_place {ns = ns} {i = i} g =
-    omega (arith, g.put.place, ap length (singly (take i ns)), length-take-le i ns g.inside)
-
-pub table_place : {out₀ : List ℕ} {at : ℕ} {ns out : List ℕ} {i o : ℕ} → Given out₀ at big16 ns out i o → o ≡ at + 2 * i
-table_place {ns = ns} {i = i} g = omega (arith, g.put.place, table_length (take i ns), length-take-le i ns g.inside)
+pub table_place : (ns : List ℕ) (i : ℕ) {out₀ out : List ℕ} {at o : ℕ} → Put out₀ at (given big16 (take i ns)) out o → i < length ns
+    → o ≡ at + 2 * i
+table_place ns i p h =
+    let inside : i ≤ length ns = omega arith in
+    omega (arith, p.place, table_length (take i ns), length-take-le i ns inside)

@@ -12,7 +12,7 @@ use Rattle.run.specs.Answers.{answer, bare, short_room, given}
 use Rattle.run.specs.Put.{Put}
 use Rattle.run.proofs.Puts.{put_both, put_over}
 use Rattle.sorts.specs.declared.Form.{Form}
-use Rattle.sorts.specs.declared.FormFound.TheVariants.{Is, Nothing}
+use Rattle.std.specs.Prelude.{Some, None}
 use Rattle.sorts.specs.Forms.{form_of}
 use Rattle.case_table.specs.Layout.{header, big16, case_with}
 use Rattle.case_writing.specs.FromParts.{fitting, write_case_answer, write_case_octets}
@@ -27,11 +27,11 @@ module _ (form : ℕ) (lengths octets case : List ℕ) where
   abbrev Promised : Answer → List ℕ → Type 0
   Promised r case' = (r ≡ write_case_answer form lengths octets (length case)) × (case' ≡ write_case_octets form lengths octets case)
 
-  pub no_form : (r : Answer) → r ≡ bare 11 → form_of form ≡ Nothing → Promised r case
+  pub no_form : (r : Answer) → r ≡ bare 11 → form_of form ≡ None → Promised r case
   unfolding write_case_answer write_case_octets
   no_form r e q = (e ∙ sym (simp q), sym (simp q))
 
-  module _ (f : Form) (is_form : form_of form ≡ Is f) where
+  module _ (f : Form) (is_form : form_of form ≡ Some f) where
     pub unfit : (r : Answer) → r ≡ bare 15 → fitting lengths (length octets) ≡ false → Promised r case
     unfolding write_case_answer write_case_octets
     unfit r e q = (e ∙ sym (simp (is_form, q)), sym (simp (is_form, q)))

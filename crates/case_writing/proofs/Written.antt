@@ -14,12 +14,11 @@ use Rattle.run.specs.Choice.{pick}
 use Rattle.run.specs.declared.Answer.{Answer}
 use Rattle.run.specs.Answers.{answer, bare, short_room, given, over}
 use Rattle.run.proofs.Answers.{over_past}
-use Rattle.sorts.specs.declared.FormFound.{FormFound}
-use Rattle.sorts.specs.declared.FormFound.TheVariants.{Is, Nothing}
+use Rattle.sorts.specs.declared.Form.{Form}
+use Rattle.std.specs.Prelude.{Option, Some, None}
 use Rattle.sorts.specs.Forms.{form_of, in_form}
-use Rattle.case_table.specs.declared.Header.TheVariants.{Pages}
 use Rattle.case_table.specs.Layout.{total, of_form, cut, case_with}
-use Rattle.case_table.specs.Check.{header_of, lengths_of, pages_of}
+use Rattle.case_table.specs.Check.{says, header_of, lengths_of, pages_of}
 use Rattle.case_table.specs.Grammar.{CaseOf}
 use Rattle.case_writing.specs.CaseWritingNumbers.{Parts, WriteCaseTable}
 use Rattle.case_writing.specs.FromParts.{fitting, written_answer, write_case_answer, write_case_octets}
@@ -103,11 +102,11 @@ module _ (form : ℕ) (lengths octets case : List ℕ) where
   by_parts i false e =
       WriteCaseTable.no_parts i (λ p. let w = of_parts lengths octets p in let z : ◌≡◌ {A = ℕ} 0 1 = cc in omega arith)
 
-  by_form : (y : FormFound) → form_of form ≡ y
+  by_form : (y : Option Form) → form_of form ≡ y
       → Row (in_form y (bare 11) (λ f. pick fit (written_answer (length octets) (length case) whole) (bare 15)))
       (in_form y case (λ f. pick fit (held roomy) case))
-  by_form (Is f) q = by_parts (found_is form f q) fit refl
-  by_form Nothing q = WriteCaseTable.no_form ((none_exactly form).0 q)
+  by_form (Some f) q = by_parts (found_is form f q) fit refl
+  by_form None q = WriteCaseTable.no_form ((none_exactly form).0 q)
 
   -- What `write_case` promises is exactly a row of the table, "11, then 15 .., then 9", and else accepted: the four numbers, and what the
   -- lent octets hold after.
@@ -139,7 +138,7 @@ module _ (form : ℕ) (lengths octets : List ℕ) (i : IsForm form) (p : Parts l
       }
 
   -- and reads as its parts: header, table and pages, which are the page octets
-  pub written_header : header_of (case_with form lengths octets) ≡ Pages form (length lengths)
+  pub written_header : header_of (case_with form lengths octets) ≡ says form (length lengths)
   written_header = header_says form lengths octets i p.few p.sum
 
   pub written_lengths : lengths_of (case_with form lengths octets) ≡ lengths

@@ -1,7 +1,8 @@
 // A TLX case written from its parts (document 01, "The TLX case"); the pages are not read.
 #![tactic(auto)]
 
-ghost use Rattle.std.specs.Prelude.{◌≡◌, true, ◌+◌, ◌*◌, ◌≤◌, ◌<◌, length};
+ghost use Rattle.std.specs.Prelude.{◌≡◌, true, ◌+◌, ◌*◌, ◌≤◌, ◌<◌, length, sum, nat_le, IsTrue};
+ghost use Rattle.std.specs.List.{list_all};
 ghost use Rattle.run.specs.Answers.{given};
 ghost use Rattle.run.specs.Put.{Put};
 ghost use Rattle.case_table.specs.Layout.{big16, header};
@@ -9,25 +10,34 @@ ghost use Rattle.case_writing.specs.FromParts.{none_over, fitting};
 ghost use Rattle.case_writing.specs.Promises.{WriteCasePromise};
 
 use run::Answer;
-use sorts::FormFound;
+use sorts::Form;
+
+// 01: "a length is over 65,535": none is.
+fn are_short(lengths: &[u32]) -> bool
+    ensures { result ≡ list_all (λ n. nat_le n 65535) lengths.now }
+{
+    lengths.iter().all(|&length| length <= 65535)
+}
+
+// The lengths, added up.
+fn total_of(lengths: &[u32]) -> usize
+    requires { length lengths.now ≤ 256 }
+    ensures { result ≡ sum lengths.now }
+{
+    lengths.iter().map(|&length| length as usize).sum()
+}
 
 // 01: 15 "if there are over 256 pages, a length is over 65,535 or the lengths don't add up to the page octets".
 fn is_fitting(lengths: &[u32], size: usize) -> bool
-    ensures { result ≡ fitting lengths.now size }
+    ensures test { result ≡ fitting lengths.now size }
+    ensures few { IsTrue result → length lengths.now ≤ 256 }
+    ensures short { IsTrue result → none_over 0xFFFF lengths.now ≡ true }
+    ensures small { IsTrue result → size ≤ 16776960 }
 {
     if 256 < lengths.len() {
         return false;
     }
-    let mut i = 0;
-    let mut sum = 0;
-    while i < lengths.len() {
-        if 65535 < lengths[i] {
-            return false;
-        }
-        sum += lengths[i] as usize;
-        i += 1;
-    }
-    sum == size
+    are_short(lengths) && total_of(lengths) == size
 }
 
 // 01: "big-endian 16-bit".
@@ -44,13 +54,9 @@ fn put_all(octets: &[u8], out: &mut [u8], at: usize) -> usize
     requires { at + length octets.now ≤ length out.old }
     ensures { Put out.old at octets.now out.new result }
 {
-    let mut i = 0;
-    let mut o = at;
-    while i < octets.len() {
-        o = run::put(out, o, octets[i]);
-        i += 1;
-    }
-    o
+    let end = at + octets.len();
+    out[at..end].copy_from_slice(octets);
+    end
 }
 
 // The mark, the version, the form and how many pages.
@@ -69,21 +75,18 @@ fn put_table(lengths: &[u32], out: &mut [u8], at: usize) -> usize
     requires { (at + 2 * length lengths.now ≤ length out.old) × (none_over 0xFFFF lengths.now ≡ true) }
     ensures { Put out.old at (given big16 lengths.now) out.new result }
 {
-    let mut i = 0;
-    let mut o = at;
-    while i < lengths.len() {
-        o = put_number(out, o, lengths[i]);
-        i += 1;
+    let mut next = at;
+    for &length in lengths {
+        next = put_number(out, next, length);
     }
-    o
+    next
 }
 
 // Writes a case from its parts; the pages are not read. 01's order of refusals: 11, 15, 9.
 pub fn write_case(form: u32, lengths: &[u32], octets: &[u8], case: &mut [u8]) -> Answer
     ensures { WriteCasePromise form lengths.now octets.now case.old result case.new }
 {
-    let found = sorts::form_of(form);
-    let FormFound::Is(_) = found else {
+    let Ok(_) = Form::try_from(form) else {
         return run::bare_answer(11);
     };
     if !is_fitting(lengths, octets.len()) {

@@ -4,29 +4,24 @@ use Prim.Native.Nat.{ℕ, ◌≤◌, ◌<◌}
 use mathlib.Core.Path.{◌≡◌, refl, sym, ap, ap₂, ◌∙◌}
 use mathlib.Core.List.{List}
 use native.Mathlib.Omega.{arith}
-use lib.Dec.{eqb}
 use lib.ListN.{length}
-use denote.Ref.{Bor}
-use borrow.Author.Tests.{lt-ltb, le-ltb, eq-eqb, ne_eqb}
-use Rattle.run.specs.Choice.{pick}
+use borrow.Author.Tests.{lt-ltb, le-ltb}
 use Rattle.run.specs.Head.{Outcome, accepted, refusal}
 use Rattle.run.specs.Tagged.{untag}
 use Rattle.run.specs.declared.Answer.{Answer}
 use Rattle.run.specs.Answers.{answer, bare, count_of, roomy_answer}
 use Rattle.run.proofs.Outcomes as outcomes
 use Rattle.sorts.specs.declared.Form.{Form}
-use Rattle.sorts.specs.declared.FormFound.TheVariants.{Is, Nothing}
+use Rattle.std.specs.Prelude.{Some, None}
 use Rattle.sorts.specs.Forms.{form_of}
 use Rattle.element_words.specs.Words.{words_of}
 use Rattle.text_loops.specs.declared.Measured.{Measured}
 use Rattle.text_loops.specs.Fronts.{measured}
 use Rattle.text_reading.specs.ReadingNumbers.{limit}
 use Rattle.text_reading.proofs.Edges.{no_form, a_form, over, within}
-use Rattle.compare.specs.declared.Comparison.{Comparison}
 use Rattle.compare.specs.declared.Shared.{Shared}
 use Rattle.compare.specs.WhatChanged.{refused_by, same_of, differ_at}
-use Rattle.compare.specs.Comparing.{Segment, segments_in, told_by, by_readings, compared_in, comparison, part_of, lie_of}
-use Rattle.compare.specs.Promises.{ComparePromise}
+use Rattle.compare.specs.Comparing.{Segment, segments_in, told_by, by_readings, compared_in, comparison}
 use Rattle.compare.specs.Walking.{ReadThrough, shared_by, shared_in}
 use Rattle.compare.proofs.Segments.{segments_read, read_segments}
 
@@ -98,39 +93,21 @@ module _ (f : Form) (first second : List ℕ) where
 -- ---- at the public edge
 
 module _ (form : ℕ) (first second : List ℕ) where
-  pub compared_none : form_of form ≡ Nothing → refused_by (bare 11) 0 (length first) ≡ comparison form first second
+  pub compared_none : form_of form ≡ None → refused_by (bare 11) 0 (length first) ≡ comparison form first second
   unfolding comparison
   compared_none q = no_form _ _ _ q
 
-  pub first_over : (f : Form) → form_of form ≡ Is f → limit < length first
+  pub first_over : (f : Form) → form_of form ≡ Some f → limit < length first
       → refused_by (bare 12) 1 (length first) ≡ comparison form first second
   unfolding comparison
   first_over f q h = a_form _ _ _ _ _ q (over first _ _ h)
 
-  pub second_over : (f : Form) → form_of form ≡ Is f → length first ≤ limit → limit < length second
+  pub second_over : (f : Form) → form_of form ≡ Some f → length first ≤ limit → limit < length second
       → refused_by (bare 12) 2 (length first) ≡ comparison form first second
   unfolding comparison
   second_over f q l h = a_form _ _ _ _ _ q (over second _ _ h ∙ within first _ _ l)
 
-  pub both_within : (f : Form) → form_of form ≡ Is f → length first ≤ limit → length second ≤ limit
+  pub both_within : (f : Form) → form_of form ≡ Some f → length first ≤ limit → length second ≤ limit
       → compared_in f first second ≡ comparison form first second
   unfolding comparison
   both_within f q l h = a_form _ _ _ _ _ q (within second _ _ h ∙ within first _ _ l)
-
--- ---- the part that is handed back
-
--- of which text it is
-pub second's : {A : Type 0} (c : Comparison) (first second : A) → c.tail_text ≡ 2 → second ≡ pick (eqb c.tail_text 2) second first
-second's c first second q = sym (simp (eq-eqb c.tail_text 2 q))
-
-pub first's : {A : Type 0} (c : Comparison) (first second : A) → (c.tail_text ≡ 2 → ⊥)
-    → first ≡ pick (eqb c.tail_text 2) second first
-first's c first second q = sym (simp (ne_eqb c.tail_text 2 q))
-
--- the promise, of a comparison that is the texts'
-pub kept : (form : ℕ) (first second : Bor (List ℕ)) (c : Comparison) {part : List ℕ} {at : ℕ × ℕ}
-    → c ≡ comparison form first.now second.now → part ≡ part_of c first.now second.now → at ≡ lie_of c first.ref_ptr second.ref_ptr → ComparePromise form first second part at
-kept form first second c q p l = (
-  p ∙ ap (λ (x : Comparison). part_of x first.now second.now) q,
-  l ∙ ap (λ (x : Comparison). lie_of x first.ref_ptr second.ref_ptr) q,
-)

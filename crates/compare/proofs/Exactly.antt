@@ -14,8 +14,7 @@ use Rattle.run.specs.Head.{Outcome, accepted, refusal}
 use Rattle.run.specs.Grammar.{Run, RunOf}
 use Rattle.run.specs.Answers.{answer, bare, count_of}
 use Rattle.sorts.specs.declared.Form.{Form}
-use Rattle.sorts.specs.declared.FormFound.{FormFound}
-use Rattle.sorts.specs.declared.FormFound.TheVariants.{Is, Nothing}
+use Rattle.std.specs.Prelude.{Option, Some, None}
 use Rattle.sorts.specs.Forms.{form_of, in_form}
 use Rattle.sorts.proofs.FormNumbers.{none_exactly}
 use Rattle.element_words.specs.declared.Element.{Element}
@@ -187,23 +186,23 @@ module _ (form : ℕ) (first second : List ℕ) where
               run' = (pieces_of ys, its_run f second ys z);
             }) (meet f first second xs ys q z)
 
-  by_second : (f : Form) → form_of form ≡ Is f → length first ≤ limit → (b : Bool) → leb (length second) limit ≡ b
+  by_second : (f : Form) → form_of form ≡ Some f → length first ≤ limit → (b : Bool) → leb (length second) limit ≡ b
       → Row (pick b (compared_in f first second) (refused_by (bare 12) 2 (length first)))
   by_second f q l true e = readings_row (record { is_form = q; first_within = l; second_within = leb-true _ _ e })
   by_second f q l false e = CompareRow.second_over q l (leb-false _ _ e)
 
-  by_first : (f : Form) → form_of form ≡ Is f → (b : Bool) → leb (length first) limit ≡ b
+  by_first : (f : Form) → form_of form ≡ Some f → (b : Bool) → leb (length first) limit ≡ b
       → Row (pick b (within_limit second (refused_by (bare 12) 2 (length first)) (compared_in f first second))
       (refused_by (bare 12) 1 (length first)))
   by_first f q true e = by_second f q (leb-true _ _ e) (leb (length second) limit) refl
   by_first f q false e = CompareRow.first_over q (leb-false _ _ e)
 
-  by_form : (y : FormFound) → form_of form ≡ y
+  by_form : (y : Option Form) → form_of form ≡ y
       → Row (in_form y (refused_by (bare 11) 0 (length first))
       (λ f. within_limit first (refused_by (bare 12) 1 (length first))
       (within_limit second (refused_by (bare 12) 2 (length first)) (compared_in f first second))))
-  by_form (Is f) q = by_first f q (leb (length first) limit) refl
-  by_form Nothing q = CompareRow.no_form ((none_exactly form).0 q)
+  by_form (Some f) q = by_first f q (leb (length first) limit) refl
+  by_form None q = CompareRow.no_form ((none_exactly form).0 q)
 
   pub its_row : Row (comparison form first second)
   unfolding comparison

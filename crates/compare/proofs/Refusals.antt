@@ -16,7 +16,7 @@ use Rattle.run.specs.Grammar.{RunOf}
 use Rattle.run.specs.declared.Answer.{Answer}
 use Rattle.run.specs.Answers.{answer, bare, count_of, roomy_answer}
 use Rattle.sorts.specs.declared.Form.{Form}
-use Rattle.sorts.specs.declared.FormFound.TheVariants.{Is}
+use Rattle.std.specs.Prelude.{Some}
 use Rattle.sorts.specs.Forms.{form_of, NoForm}
 use Rattle.sorts.proofs.FormNumbers.{none_exactly}
 use Rattle.element_words.specs.declared.Element.{Element}
@@ -48,29 +48,29 @@ module _ (form : ℕ) (first second : List ℕ) where
   unfolding read_answer
   read_none n text = sym (ap (λ (a : Answer). a.number) (no_form _ (bare 11) _ ((none_exactly form).1 n)))
 
-  read_over : {f : Form} (text : List ℕ) → form_of form ≡ Is f → limit < length text → bare 12 ≡ Of text
+  read_over : {f : Form} (text : List ℕ) → form_of form ≡ Some f → limit < length text → bare 12 ≡ Of text
   unfolding read_answer
   read_over text q l = a_form _ _ _ _ _ q (over text _ _ l)
 
-  read_fault : {f : Form} (text : List ℕ) {r n p d : ℕ} → form_of form ≡ Is f → length text ≤ limit → ReadingFault f text r n p d
+  read_fault : {f : Form} (text : List ℕ) {r n p d : ℕ} → form_of form ≡ Some f → length text ≤ limit → ReadingFault f text r n p d
       → answer r n p (count_of r d) ≡ Of text
   read_fault {f} text {r} {n} {p} {d} q l h =
       sym (measure_is form f q text l ∙ ap (roomy_answer words_of (length text)) ((refused_exactly f text r n p d).1 h))
 
-  read_run : {f : Form} (text : List ℕ) {es : List Element} → form_of form ≡ Is f → length text ≤ limit → RunOf (Spells f) text es
+  read_run : {f : Form} (text : List ℕ) {es : List Element} → form_of form ≡ Some f → length text ≤ limit → RunOf (Spells f) text es
       → (Of text).number ≡ 0
   read_run {f} text {es} q l r =
       ap (λ (a : Answer). a.number)
       (measure_is form f q text l ∙ ap (roomy_answer words_of (length text)) ((accepted_exactly f text es).1 r))
 
-  fault_small : {f : Form} (text : List ℕ) {r n p d : ℕ} → form_of form ≡ Is f → length text ≤ limit → ReadingFault f text r n p d
+  fault_small : {f : Form} (text : List ℕ) {r n p d : ℕ} → form_of form ≡ Some f → length text ≤ limit → ReadingFault f text r n p d
       → (0 < (Of text).number) × ((Of text).number ≤ 8)
   fault_small {f} text q l h =
       let z = reading_number f h.here in
       let e = ap (λ (a : Answer). a.number) (read_fault text q l h) in
       (omega (arith, z.0), omega (arith, z.1))
 
-  within_small : {f : Form} (text : List ℕ) → form_of form ≡ Is f → length text ≤ limit → (Of text).number ≤ 8
+  within_small : {f : Form} (text : List ℕ) → form_of form ≡ Some f → length text ≤ limit → (Of text).number ≤ 8
   within_small {f} text q l = go (read_in f text) refl
     where
       go : (x : Outcome Element) → read_in f text ≡ x → (Of text).number ≤ 8

@@ -10,8 +10,7 @@ use Rattle.run.specs.Head.{element}
 use Rattle.run.proofs.FromPlace.{at_place}
 use Rattle.sorts.specs.declared.Form.{Form}
 use Rattle.sorts.specs.declared.Sort.{Sort}
-use Rattle.sorts.specs.declared.Found.{Found}
-use Rattle.sorts.specs.declared.Found.TheVariants.{Char, Nothing}
+use Rattle.std.specs.Prelude.{Option, Some, None}
 use Rattle.sorts.specs.Sorts.{sort_in}
 use Rattle.squares.specs.Squares.{square_of}
 use Rattle.lent_tables.specs.CodeTables.{no_character, neither, code_table, code_in}
@@ -47,9 +46,9 @@ module _ (f : Form) (text : List ℕ) (at : ℕ) where
         }
 
     -- a mark that begins an element: its follower is listed
-    listed : (x : Found) (s : Sort) (e : Element) (k : ℕ) → pair_head false 1 x s ≡ element e k → k ≡ 2
-    listed (Char c) s e k q = cc
-    listed Nothing s e k q = let z : ◌≡◌ {A = ℕ} 0 1 = cc in absurd (omega arith)
+    listed : (x : Option ℕ) (s : Sort) (e : Element) (k : ℕ) → pair_head false 1 x s ≡ element e k → k ≡ 2
+    listed (Some c) s e k q = cc
+    listed None s e k q = let z : ◌≡◌ {A = ℕ} 0 1 = cc in absurd (omega arith)
 
     followed : (m : ℕ) (t : List ℕ) (e : Element) (k : ℕ) → follower_head f m false 1 t ≡ element e k → k ≡ 2
     unfolding follower_head

@@ -8,7 +8,6 @@ use Rattle.run.specs.Tagged.{tagged}
 use Rattle.run.specs.Answers.{answer, bare, count_of}
 use Rattle.sorts.specs.declared.Form.{Form}
 use Rattle.sorts.specs.Forms.{form_of, in_form}
-use Rattle.sequence_reading.specs.declared.Values.{Values}
 use Rattle.element_words.specs.declared.Element.{Element}
 use Rattle.element_words.specs.declared.Element.TheVariants.{One, Sequence as SequenceOf}
 use Rattle.element_reading.specs.ElementHead.{head_in}
@@ -19,21 +18,12 @@ use Rattle.compare.specs.WhatChanged.{refused_by, same_of, differ_at}
 
 -- ---- tests
 
-abbrev pub same_values : Values → Values → Bool
-same_values a b =
-    pick (eqb a.v0 b.v0)
-    (pick (eqb a.v1 b.v1)
-    (pick (eqb a.v2 b.v2)
-    (pick (eqb a.v3 b.v3)
-    (pick (eqb a.v4 b.v4)
-    (pick (eqb a.v5 b.v5) (pick (eqb a.v6 b.v6) (eqb a.v7 b.v7) false) false) false) false) false) false) false
-
--- the same element
+-- the same element: of two sequences, head word, count and values
 abbrev pub same_element : Element → Element → Bool
 same_element (One v) (One w) = eqb v w
 same_element (One v) (SequenceOf h n vs) = false
 same_element (SequenceOf h n vs) (One w) = false
-same_element (SequenceOf h n vs) (SequenceOf i m ws) = pick (eqb h i) (pick (eqb n m) (same_values vs ws) false) false
+same_element (SequenceOf h n vs) (SequenceOf i m ws) = pick (eqb h i) (pick (eqb n m) (same_octets vs ws) false) false
 
 -- ---- what two texts share, element after element
 

@@ -1,6 +1,6 @@
 -- Parts of the code: what the walk over two texts knows at a place of each. No promise and no statement of a theorem of record has them.
 -- Assumes nothing.
-use Rattle.std.specs.Prelude.{ℕ, ◌≡◌, List, take}
+use Rattle.std.specs.Prelude.{ℕ, ◌≡◌, List, Option, None, Some, take}
 use Rattle.run.specs.Choice.{pick}
 use Rattle.run.specs.Head.{Head, Outcome, element, refused, none, accepted, refusal}
 use Rattle.sorts.specs.declared.Form.{Form}
@@ -26,14 +26,14 @@ pub record ReadThrough (f : Form) (s : List ℕ) : Type 0 where
   pub reads : segments_in f s ≡ accepted segments
 
 -- what is shared at the heads: the first element of each, where they are the same
-abbrev pub shared_heads : Head Element → Head Element → List ℕ → List ℕ → Shared
-shared_heads (element e k) (element g l) s t = pick (same_element e g) (one_shared (take k s) (take l t)) nothing_shared
-shared_heads (element e k) (refused r d) s t = nothing_shared
-shared_heads (element e k) none s t = nothing_shared
-shared_heads (refused r d) h s t = nothing_shared
-shared_heads none h s t = nothing_shared
+abbrev pub shared_heads : Head Element → Head Element → List ℕ → List ℕ → Option Shared
+shared_heads (element e k) (element g l) s t = pick (same_element e g) (Some (one_shared (take k s) (take l t))) None
+shared_heads (element e k) (refused r d) s t = None
+shared_heads (element e k) none s t = None
+shared_heads (refused r d) h s t = None
+shared_heads none h s t = None
 
-abbrev pub shared_here : Form → List ℕ → List ℕ → Shared
+abbrev pub shared_here : Form → List ℕ → List ℕ → Option Shared
 shared_here f s t = shared_heads (head_in f s) (head_in f t) s t
 
 -- what two accepted texts share

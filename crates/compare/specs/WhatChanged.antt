@@ -1,12 +1,11 @@
 -- To be believed: what changed between two texts of one form, in the words of document 02, No. 4, and the order of its refusals. The texts
 -- are runs of elements (`Spells`, `ReadingFault`); nothing here speaks of a reader, nor of the walk over both.
 -- Assumes nothing.
-use Rattle.std.specs.Prelude.{ℕ, suc, ◌≤◌, ◌<◌, ◌≡◌, List, [], ◌∷◌, ◌++◌, length}
+use Rattle.std.specs.Prelude.{ℕ, suc, ◌≤◌, ◌<◌, ◌≡◌, List, [], ◌∷◌, ◌++◌, length, Some}
 use Rattle.run.specs.Grammar.{Run, RunOf, Begins}
 use Rattle.run.specs.declared.Answer.{Answer}
 use Rattle.run.specs.Answers.{answer, bare, count_of}
 use Rattle.sorts.specs.declared.Form.{Form}
-use Rattle.sorts.specs.declared.FormFound.TheVariants.{Is}
 use Rattle.sorts.specs.Forms.{form_of, NoForm}
 use Rattle.element_words.specs.declared.Element.{Element}
 use Rattle.element_reading.specs.Grammar.{Spells}
@@ -118,14 +117,14 @@ differ_at n p q text place =
 module _ (form : ℕ) (first second : List ℕ) where
   -- neither 11 nor 12: the form is one, and both texts are within the limit
   pub record FormAndLimit (f : Form) : Type 0 where
-    pub is_form : form_of form ≡ Is f
+    pub is_form : form_of form ≡ Some f
     pub first_within : length first ≤ limit
     pub second_within : length second ≤ limit
 
   pub data CompareRow : Comparison → Type 0 where
     no_form : NoForm form → CompareRow (refused_by (bare 11) 0 (length first))
-    first_over : {f : Form} → form_of form ≡ Is f → limit < length first → CompareRow (refused_by (bare 12) 1 (length first))
-    second_over : {f : Form} → form_of form ≡ Is f → length first ≤ limit → limit < length second
+    first_over : {f : Form} → form_of form ≡ Some f → limit < length first → CompareRow (refused_by (bare 12) 1 (length first))
+    second_over : {f : Form} → form_of form ≡ Some f → length first ≤ limit → limit < length second
         → CompareRow (refused_by (bare 12) 2 (length first))
     first_refused : {f : Form} {r n p d : ℕ} → FormAndLimit f → ReadingFault f first r n p d
         → CompareRow (refused_by (answer r n p (count_of r d)) 1 (length first))

@@ -1,19 +1,16 @@
 // What changed between two texts of one form (document 02, No. 4).
 #![tactic(auto)]
 
-ghost use Rattle.std.specs.Prelude.{◌≡◌, ◌+◌, ◌≤◌, ◌<◌, length, take, drop};
-ghost use Rattle.lent_tables.specs.CodeTables.{code_table};
+ghost use Rattle.std.specs.Prelude.{◌≡◌, ◌↔◌, ◌+◌, ◌≤◌, IsTrue, length, take, drop};
 ghost use Rattle.compare.specs.WhatChanged.{refused_by, differ_at};
-ghost use Rattle.run.specs.Choice.{same_octets};
-ghost use Rattle.compare.specs.Comparing.{same_values, same_element, told_by, compared_in};
+ghost use Rattle.compare.specs.Comparing.{shared_of, told_by, compared_in};
 ghost use Rattle.compare.specs.Walking.{Stands, SizeOf, ReadThrough, shared_here, shared_in};
 ghost use Rattle.compare.specs.Promises.{ComparedPromise, ComparePromise};
 
 use element_reading::Step;
-use element_words::Element;
+use lent_tables::Reader;
 use run::Answer;
-use sequence_reading::Values;
-use sorts::{Form, FormFound};
+use sorts::Form;
 
 // What comparing two texts says.
 #[repr(C)]
@@ -44,111 +41,50 @@ pub struct Shared {
     pub otherwise: usize,
 }
 
-// No element at all.
-const NOTHING: Shared = Shared {
-    elements: 0,
-    first: 0,
-    second: 0,
-    otherwise: 0,
-};
+impl Shared {
+    // No element at all.
+    const NOTHING: Shared = Shared {
+        elements: 0,
+        first: 0,
+        second: 0,
+        otherwise: 0,
+    };
+
+    // One element that the same octets spell in both, so many.
+    fn alike(size: usize) -> Shared
+        ensures { result ≡ shared_of 1 size size 0 }
+    {
+        Shared {
+            elements: 1,
+            first: size,
+            second: size,
+            otherwise: 0,
+        }
+    }
+}
 
 // Whether so many octets, from a place of each text on, are the same.
 fn same_octets(first: &[u8], i: usize, second: &[u8], j: usize, size: usize) -> bool
     requires { (i + size ≤ length first.now) × (j ≤ length second.now) }
-    ensures { result ≡ same_octets (take size (drop i first.now)) (take size (drop j second.now)) }
+    ensures { IsTrue result ↔ (take size (drop i first.now) ≡ take size (drop j second.now)) }
 {
-    if second.len() - j < size {
-        return false;
-    }
-    let mut k = 0;
-    while k < size {
-        if first[i + k] != second[j + k] {
-            return false;
-        }
-        k += 1;
-    }
-    true
+    size <= second.len() - j && first[i..i + size] == second[j..j + size]
 }
 
-// Whether two sequences have the same eight values.
-fn same_values(a: Values, b: Values) -> bool
-    ensures { result ≡ same_values a b }
+// How many octets the element at a place has: one of a spacing character, two of a mark and its follower, by what the octet is by itself; any
+// other is read.
+fn size_at(reader: &Reader, text: &[u8], at: usize) -> usize
+    requires { Stands reader.now (drop at text.now) }
+    ensures { SizeOf reader.now (drop at text.now) result }
 {
-    if a.v0 != b.v0 {
-        return false;
-    }
-    if a.v1 != b.v1 {
-        return false;
-    }
-    if a.v2 != b.v2 {
-        return false;
-    }
-    if a.v3 != b.v3 {
-        return false;
-    }
-    if a.v4 != b.v4 {
-        return false;
-    }
-    if a.v5 != b.v5 {
-        return false;
-    }
-    if a.v6 != b.v6 {
-        return false;
-    }
-    a.v7 == b.v7
-}
-
-// Whether two elements are the same.
-fn same_element(a: Element, b: Element) -> bool
-    ensures { result ≡ same_element a b }
-{
-    match a {
-        Element::One(word) => match b {
-            Element::One(other) => word == other,
-            Element::Sequence {
-                head: _,
-                count: _,
-                values: _,
-            } => false,
-        },
-        Element::Sequence {
-            head,
-            count,
-            values,
-        } => match b {
-            Element::One(_) => false,
-            Element::Sequence {
-                head: other,
-                count: many,
-                values: theirs,
-            } => {
-                if head != other {
-                    return false;
-                }
-                if count != many {
-                    return false;
-                }
-                same_values(values, theirs)
-            }
-        },
-    }
-}
-
-// How many octets the element at a place has: one of a spacing character, two of a mark and its follower, by the lent table; any other is
-// read.
-fn size_at(form: Form, codes: &[u16; 256], text: &[u8], at: usize) -> usize
-    requires { (codes.now ≡ code_table form) × Stands form (drop at text.now) }
-    ensures { SizeOf form (drop at text.now) result }
-{
-    let code = lent_tables::code_in(codes, text[at]);
+    let code = reader.code(text[at]);
     if code < lent_tables::NO_CHARACTER {
         return 1;
     }
     if code < lent_tables::NEITHER {
         return 2;
     }
-    let step = element_reading::element_at(form, text, at);
-    let Step::Element(_, next, _) = step else {
+    let Step::Element(_, next, _) = element_reading::element_at(reader.form(), text, at) else {
         return 0;
     };
     next - at
@@ -156,112 +92,51 @@ fn size_at(form: Form, codes: &[u16; 256], text: &[u8], at: usize) -> usize
 
 // What both texts share at a place of each: one element, or nothing where the two that stand there differ. Of an element that the same
 // octets spell in both only the size is asked for, and of a spacing character not even that.
-fn shared_at(
-    form: Form,
-    codes: &[u16; 256],
-    first: &[u8],
-    i: usize,
-    second: &[u8],
-    j: usize,
-) -> Shared
-    requires lent { codes.now ≡ code_table form }
-    requires stands { Stands form (drop i first.now) × Stands form (drop j second.now) }
-    ensures { result ≡ shared_here form (drop i first.now) (drop j second.now) }
+fn shared_at(reader: &Reader, first: &[u8], i: usize, second: &[u8], j: usize) -> Option<Shared>
+    requires { Stands reader.now (drop i first.now) × Stands reader.now (drop j second.now) }
+    ensures { result ≡ shared_here reader.now (drop i first.now) (drop j second.now) }
 {
     let octet = first[i];
-    if octet == second[j] {
-        if lent_tables::code_in(codes, octet) < lent_tables::NO_CHARACTER {
-            return Shared {
-                elements: 1,
-                first: 1,
-                second: 1,
-                otherwise: 0,
-            };
-        }
+    if octet == second[j] && reader.code(octet) < lent_tables::NO_CHARACTER {
+        return Some(Shared::alike(1));
     }
-    let size = size_at(form, codes, first, i);
+    let size = size_at(reader, first, i);
     if same_octets(first, i, second, j, size) {
-        return Shared {
-            elements: 1,
-            first: size,
-            second: size,
-            otherwise: 0,
-        };
+        return Some(Shared::alike(size));
     }
-    let step = element_reading::element_at(form, first, i);
-    let Step::Element(a, next, _) = step else {
-        return NOTHING;
+    let Step::Element(a, next, _) = element_reading::element_at(reader.form(), first, i) else {
+        return None;
     };
-    let other = element_reading::element_at(form, second, j);
-    let Step::Element(b, after, _) = other else {
-        return NOTHING;
+    let Step::Element(b, after, _) = element_reading::element_at(reader.form(), second, j) else {
+        return None;
     };
-    if !same_element(a, b) {
-        return NOTHING;
+    if a != b {
+        return None;
     }
-    Shared {
+    Some(Shared {
         elements: 1,
         first: next - i,
         second: after - j,
         otherwise: 1,
-    }
+    })
 }
 
 // The walk over two accepted texts, up to where their meanings part or one of them ends.
-fn walk(form: Form, codes: &[u16; 256], first: &[u8], second: &[u8]) -> Shared
-    requires lent { codes.now ≡ code_table form }
-    requires read_through { ReadThrough form first.now × ReadThrough form second.now }
-    ensures { result ≡ shared_in form first.now second.now }
+fn walk(reader: &Reader, first: &[u8], second: &[u8]) -> Shared
+    requires { ReadThrough reader.now first.now × ReadThrough reader.now second.now }
+    ensures { result ≡ shared_in reader.now first.now second.now }
 {
-    let mut n = 0;
-    let mut i = 0;
-    let mut j = 0;
-    let mut k = 0;
-    while i < first.len() {
-        if second.len() <= j {
-            return Shared {
-                elements: n,
-                first: i,
-                second: j,
-                otherwise: k,
-            };
-        }
-        let here = shared_at(form, codes, first, i, second, j);
-        if here.elements == 0 {
-            return Shared {
-                elements: n,
-                first: i,
-                second: j,
-                otherwise: k,
-            };
-        }
-        n += 1;
-        i += here.first;
-        j += here.second;
-        k += here.otherwise;
+    let mut shared = Shared::NOTHING;
+    while shared.first < first.len() && shared.second < second.len() {
+        let Some(more) = shared_at(reader, first, shared.first, second, shared.second) else {
+            break;
+        };
+        shared.elements += more.elements;
+        shared.first += more.first;
+        shared.second += more.second;
+        shared.otherwise += more.otherwise;
     }
-    Shared {
-        elements: n,
-        first: i,
-        second: j,
-        otherwise: k,
-    }
-}
-
-// A text is refused, or the form: 02: "on a refusal, it is the first's empty end".
-fn refused_by(answer: Answer, text: usize, end: usize) -> Comparison
-    ensures { result ≡ refused_by answer text end }
-{
-    Comparison {
-        answer,
-        text,
-        same: 0,
-        first_place: 0,
-        second_place: 0,
-        otherwise: 0,
-        tail_text: 1,
-        tail_place: end,
-    }
+    shared
 }
 
 // What is said of two texts that differ behind what they share; the part that is handed back is of a text, from a place on.
@@ -270,10 +145,8 @@ fn differ_at(shared: Shared, text: usize, place: usize) -> Comparison
 {
     Comparison {
         answer: Answer {
-            number: 0,
             element: shared.elements,
-            place: 0,
-            count: 0,
+            ..run::bare_answer(0)
         },
         text: 0,
         same: 0,
@@ -282,6 +155,17 @@ fn differ_at(shared: Shared, text: usize, place: usize) -> Comparison
         otherwise: 0,
         tail_text: text,
         tail_place: place,
+    }
+}
+
+// A text is refused, or the form: nothing is shared. 02: "on a refusal, it is the first's empty end".
+fn refused_by(answer: Answer, text: usize, end: usize) -> Comparison
+    ensures { result ≡ refused_by answer text end }
+{
+    Comparison {
+        answer,
+        text,
+        ..differ_at(Shared::NOTHING, 1, end)
     }
 }
 
@@ -296,10 +180,11 @@ fn told(shared: Shared, first: usize, second: usize) -> Comparison
     if shared.second < second {
         return differ_at(shared, 2, shared.second);
     }
-    let mut c = differ_at(shared, 1, shared.first);
-    c.same = 1;
-    c.otherwise = shared.otherwise;
-    c
+    Comparison {
+        same: 1,
+        otherwise: shared.otherwise,
+        ..differ_at(shared, 1, shared.first)
+    }
 }
 
 // Two texts within the limit: both are read through, and then walked over together. 02: "the first text's reading refusal, then the
@@ -307,18 +192,16 @@ fn told(shared: Shared, first: usize, second: usize) -> Comparison
 fn compared_in(form: Form, first: &[u8], second: &[u8]) -> Comparison
     ensures { result ≡ compared_in form first.now second.now }
 {
-    let one = text_loops::measure_front(form, first);
-    let a = one.answer;
+    let a = text_loops::measure_front(form, first).answer;
     if a.number != 0 {
         return refused_by(a, 1, first.len());
     }
-    let two = text_loops::measure_front(form, second);
-    let b = two.answer;
+    let b = text_loops::measure_front(form, second).answer;
     if b.number != 0 {
         return refused_by(b, 2, first.len());
     }
-    let codes = lent_tables::code_table(form);
-    told(walk(form, &codes, first, second), first.len(), second.len())
+    let shared = walk(&Reader::of_form(form), first, second);
+    told(shared, first.len(), second.len())
 }
 
 // What changed between two texts of one form, in numbers. In order: 11, 12 of the first, 12 of the second, the first's reading refusal,
@@ -326,8 +209,7 @@ fn compared_in(form: Form, first: &[u8], second: &[u8]) -> Comparison
 pub fn compared(form: u32, first: &[u8], second: &[u8]) -> Comparison
     ensures { ComparedPromise form first.now second.now result }
 {
-    let found = sorts::form_of(form);
-    let FormFound::Is(f) = found else {
+    let Ok(f) = Form::try_from(form) else {
         return refused_by(run::bare_answer(11), 0, first.len());
     };
     if text_reading::LIMIT < first.len() {

@@ -14,8 +14,7 @@ use Rattle.run.specs.Grammar.{Begins, Reads}
 use Rattle.sorts.specs.declared.Form.{Form}
 use Rattle.sorts.specs.declared.Sort.{Sort}
 use Rattle.sorts.specs.declared.Sort.TheVariants.{Graphic, Mark, Underline, Shift, Control, SequenceStart, Refused}
-use Rattle.sorts.specs.declared.Found.{Found}
-use Rattle.sorts.specs.declared.Found.TheVariants.{Char, Nothing}
+use Rattle.std.specs.Prelude.{Option, Some, None}
 use Rattle.squares.specs.Squares.{square_of}
 use Rattle.sorts.specs.Sorts.{sort_in, shifted_in, sort_number, AfterShift}
 use Rattle.squares.proofs.SquareFacts.{follower_sorts}
@@ -80,9 +79,9 @@ module _ (f : Form) where
   not_high k s n = rw (ne_eqb (sort_number s) 5 (λ e. n (only_high s e)))
 
   -- no listed follower has the top bit set in seven bits
-  high_unlisted : (m l : ℕ) → sort_in f l ≡ Refused 5 → (x : Found) → square_of m l ≡ x → x ≡ Nothing
-  high_unlisted m l e (Char c) q = let h = follower_sorts f m l c q in let w : ◌≡◌ {A = ℕ} 0 1 = cc in absurd (omega arith)
-  high_unlisted m l e Nothing q = refl
+  high_unlisted : (m l : ℕ) → sort_in f l ≡ Refused 5 → (x : Option ℕ) → square_of m l ≡ x → x ≡ None
+  high_unlisted m l e (Some c) q = let h = follower_sorts f m l c q in let w : ◌≡◌ {A = ℕ} 0 1 = cc in absurd (omega arith)
+  high_unlisted m l e None q = refl
 
   may_not_3 : (s : Sort) (t : List ℕ) → MayNot s → second_sort f true 3 s t ≡ refused 3 1
   may_not_3 (Graphic c) t n = absurd n
@@ -136,11 +135,11 @@ module _ (f : Form) where
   high_or_lem : (s : Sort) → (s ≡ Refused 5) ⊎ (s ≡ Refused 5 → ⊥)
   high_or_lem s = ⊎_elim (λ e. inl (only_high s e)) (λ k. inr (λ e. k (ap sort_number e))) (is_or 5 (sort_number s))
 
-  view_listed : {p : List ℕ} {m : ℕ} {u : Bool} → Awaits f p m u → (l : ℕ) (t : List ℕ) (x : Found) → square_of m l ≡ x
+  view_listed : {p : List ℕ} {m : ℕ} {u : Bool} → Awaits f p m u → (l : ℕ) (t : List ℕ) (x : Option ℕ) → square_of m l ≡ x
       → View (p ++ (l ∷ t)) (pair_head u (length p) x (sort_in f l))
-  view_listed {p} {m} {u} w l t (Char c) e =
+  view_listed {p} {m} {u} w l t (Some c) e =
       rw (← behind p t l, ← length-append p (l ∷ [])) (read t (Spells.pair l w e))
-  view_listed {p} {m} {u} w l t Nothing e =
+  view_listed {p} {m} {u} w l t None e =
       ⊎_elim
       (λ h. rw (high_5 3 (sort_in f l) h) (stop (Refuses.high_follower l t w h)))
       (λ n. rw (not_high 3 (sort_in f l) n) (stop (Refuses.not_listed l t w e n)))

@@ -1,6 +1,6 @@
 -- No octet gives more than one word.
 -- Assumes nothing.
-use Prim.Native.Nat.{ℕ, suc, ◌≤◌}
+use Prim.Native.Nat.{ℕ, suc, ◌≤◌, min}
 use mathlib.Core.Path.{ap}
 use mathlib.Core.List.{List, [], ◌∷◌}
 use native.Mathlib.Omega.{arith}
@@ -8,7 +8,7 @@ use lib.Dec.{lit≤}
 use lib.ListN.{length, length-append, length-take}
 use Rattle.sorts.specs.declared.Form.{Form}
 use Rattle.sequence_reading.specs.Grammar.{Sequence, Parameters, SpellsSequence}
-use Rattle.sequence_reading.specs.EightValues.{values_of, list_of}
+use Rattle.sequence_reading.specs.EightValues.{values_of}
 use Rattle.element_words.specs.declared.Element.{Element}
 use Rattle.element_reading.specs.Grammar.{Spells}
 use Rattle.element_words.specs.Words.{words_of}
@@ -29,4 +29,4 @@ words_few (Spells.underlined k e) = lit≤ tt
 words_few (Spells.pair {p} l a e) = omega (arith, length-append p (l ∷ []))
 words_few (Spells.control k) = lit≤ tt
 words_few (Spells.sequence {q = q} k t) =
-    omega (arith, sequence_few t, length-take (length q.values) (list_of (values_of q.values)))
+    omega (arith, sequence_few t, length-take (min (length q.values) 8) (values_of q.values))

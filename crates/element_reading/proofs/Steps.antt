@@ -11,13 +11,11 @@ use Rattle.run.specs.Head.{Head, element, refused, none}
 use Rattle.run.proofs.FromPlace.{at_place}
 use Rattle.sorts.specs.declared.Form.{Form}
 use Rattle.sorts.specs.declared.Sort.{Sort}
-use Rattle.sorts.specs.declared.Sort.TheVariants.{Graphic, Mark, Underline, Shift, Control, SequenceStart, Refused}
-use Rattle.sorts.specs.declared.Found.{Found}
-use Rattle.sorts.specs.declared.Found.TheVariants.{Char, Nothing}
+use Rattle.sorts.specs.declared.Sort.TheVariants.{Graphic, Control, Refused}
+use Rattle.std.specs.Prelude.{Option, Some, None}
 use Rattle.squares.specs.Squares.{square_of}
 use Rattle.sorts.specs.Sorts.{sort_in}
 use Rattle.element_words.specs.declared.Element.TheVariants.{One, Sequence as SequenceOf}
-use Rattle.sequence_reading.specs.declared.Values.{Values}
 use Rattle.sequence_reading.specs.declared.Reading.TheVariants.{Whole, Refused as Bad, End as NoMore}
 use Rattle.sequence_reading.specs.Grammar.{Sequence}
 use Rattle.sequence_reading.specs.EightValues.{values_of}
@@ -35,7 +33,7 @@ use Rattle.element_reading.proofs.StepsRight.{step_right}
 
 -- ---- a control sequence
 module _ (at : ℕ) where
-  whole_by : (f : Form) (text : List ℕ) (h : Head Sequence) (m l n k w : ℕ) (vs : Values) (b : Bool) → reading_of at h ≡ Whole m l n vs k
+  whole_by : (f : Form) (text : List ℕ) (h : Head Sequence) (m l n k w : ℕ) (vs : List ℕ) (b : Bool) → reading_of at h ≡ Whole m l n vs k
       → w ≡ sequences_from + 0x10000 * m + 0x100 * l + n → b ≡ canonical_behind true (drop 1 (take (k - at) (drop at text)))
       → Read (SequenceOf w n vs) k b ≡ step_by f text at (as_element h)
   whole_by f text (element q j) m l n k w vs b e z c =
@@ -64,7 +62,7 @@ module _ (at : ℕ) where
   ended_by_lem f text none e = refl
 
   -- a sequence that is read has at most eight values, and ends within the text
-  inside_by : (s : List ℕ) (h : Head Sequence) → sequence_head s ≡ h → (m l n k : ℕ) (vs : Values) → reading_of at h ≡ Whole m l n vs k
+  inside_by : (s : List ℕ) (h : Head Sequence) → sequence_head s ≡ h → (m l n k : ℕ) (vs : List ℕ) → reading_of at h ≡ Whole m l n vs k
       → (n ≤ 8) × (at < k) × (k - at ≤ length s)
   inside_by s (element q j) z m l n k vs e =
       let en : length q.values ≡ n = cc in
@@ -76,13 +74,13 @@ module _ (at : ℕ) where
   inside_by s none z m l n k vs e = let y : ◌≡◌ {A = ℕ} 0 1 = cc in absurd (omega arith)
 
   module _ (text : List ℕ) where
-    pub sequence_whole : (m l n k w : ℕ) (vs : Values) (b : Bool) → reading_at text at ≡ Whole m l n vs k
+    pub sequence_whole : (m l n k w : ℕ) (vs : List ℕ) (b : Bool) → reading_at text at ≡ Whole m l n vs k
         → w ≡ sequences_from + 0x10000 * m + 0x100 * l + n → b ≡ canonical_behind true (drop 1 (take (k - at) (drop at text)))
         → (f : Form) → Read (SequenceOf w n vs) k b ≡ step_by f text at (as_element (sequence_head (drop at text)))
     unfolding reading_at
     sequence_whole m l n k w vs b e z c f = whole_by f text (sequence_head (drop at text)) m l n k w vs b e z c
 
-    pub sequence_inside : (m l n k : ℕ) (vs : Values) → reading_at text at ≡ Whole m l n vs k
+    pub sequence_inside : (m l n k : ℕ) (vs : List ℕ) → reading_at text at ≡ Whole m l n vs k
         → (n ≤ 8) × (at < k) × (k ≤ length text)
     unfolding reading_at
     sequence_inside m l n k vs e =
@@ -105,15 +103,6 @@ module _ (at : ℕ) where
 
 -- ---- by the sort of an octet: all but a refusal; all but a spacing character and a mark
 
-pub not_refused : (k : ℕ) (s : Sort) → ((n : ℕ) → s ≡ Refused n → ⊥) → k ≡ high_or k s
-not_refused k (Graphic c) o = refl
-not_refused k (Mark m) o = refl
-not_refused k Underline o = refl
-not_refused k Shift o = refl
-not_refused k Control o = refl
-not_refused k SequenceStart o = refl
-not_refused k (Refused n) o = absurd (o n refl)
-
 module _ (f : Form) (text : List ℕ) where
   -- ---- a follower at i
   module _ (m : ℕ) (u : Bool) (at i : ℕ) (le : at ≤ i) where
@@ -129,14 +118,14 @@ module _ (f : Form) (text : List ℕ) where
     unfolding follower_head
     follower_here h = ap (λ (l : List ℕ). step_by f text at (follower_head f m u (i - at) l)) (at_place text i h)
 
-    pub follower_not : (r : ℕ) → i < length text → square_of m (get_or text i 0) ≡ Nothing → r ≡ high_or 3 (sort_in f (get_or text i 0))
+    pub follower_not : (r : ℕ) → i < length text → square_of m (get_or text i 0) ≡ None → r ≡ high_or 3 (sort_in f (get_or text i 0))
         → Stopped r at i ≡ step_by f text at (follower_head f m u (i - at) (drop i text))
     follower_not r h e q =
         let n : i ≡ at + (i - at) = omega arith in
         ap₂ (λ (k : ℕ) (c : ℕ). Stopped k at c) q n
-        ∙ sym (follower_here h ∙ ap (λ (x : Found). step_by f text at (pair_head u (i - at) x (sort_in f (get_or text i 0)))) e)
+        ∙ sym (follower_here h ∙ ap (λ (x : Option ℕ). step_by f text at (pair_head u (i - at) x (sort_in f (get_or text i 0)))) e)
 
-    pub follower_is : (c w : ℕ) (b : Bool) → i < length text → square_of m (get_or text i 0) ≡ Char c → w ≡ graphic_word u c
+    pub follower_is : (c w : ℕ) (b : Bool) → i < length text → square_of m (get_or text i 0) ≡ Some c → w ≡ graphic_word u c
         → b ≡ word_canonical f w (get_or text i 0) (i + 1 - at)
         → Read (One w) (i + 1) b ≡ step_by f text at (follower_head f m u (i - at) (drop i text))
     follower_is c w b h e q z =
@@ -149,7 +138,7 @@ module _ (f : Form) (text : List ℕ) where
         ∙ ap (λ (v : ℕ). word_canonical f v (get_or text (at + (i - at + 1) - 1) 0) (i - at + 1)) q in
         ap₂ (λ (k : ℕ) (c : Bool). Read (One k) (i + 1) c) q t
         ∙ ap (λ (k : ℕ). Read (One (graphic_word u c)) k (test_by f text at (One (graphic_word u c)) (i - at + 1))) n
-        ∙ sym (follower_here h ∙ ap (λ (x : Found). step_by f text at (pair_head u (i - at) x (sort_in f (get_or text i 0)))) e)
+        ∙ sym (follower_here h ∙ ap (λ (x : Option ℕ). step_by f text at (pair_head u (i - at) x (sort_in f (get_or text i 0)))) e)
 
   -- ---- after SS2 and after CC
   module _ (at : ℕ) where
@@ -165,24 +154,6 @@ module _ (f : Form) (text : List ℕ) where
           ∙ sym (ap (λ (l : List ℕ). step_by f text at (second_head f u k sort l)) (at_place text (at + 1) h))
 
     -- a spacing character there
-    pub second_graphic : (u : Bool) (k c w : ℕ) (b : Bool) (t : List ℕ) (s : Sort) → s ≡ Graphic c → w ≡ graphic_word u c
-        → b ≡ word_canonical f w (get_or text (at + 1) 0) 2 → Read (One w) (at + 2) b ≡ step_by f text at (second_sort f u k s t)
-    second_graphic u k c w b t s e q z =
-        let j : at + 1 ≡ at + 2 - 1 = omega arith in
-        ap₂ (λ (v : ℕ) (d : Bool). Read (One v) (at + 2) d) q (z ∙ ap₂ (λ (v x : ℕ). word_canonical f v (get_or text x 0) 2) q j)
-        ∙ sym (ap (λ (x : Sort). step_by f text at (second_sort f u k x t)) e)
-
-    -- neither a spacing character nor a mark stands behind SS2 or CC
-    pub second_other : (u : Bool) (k : ℕ) (t : List ℕ) (s : Sort) → ((c : ℕ) → s ≡ Graphic c → ⊥) → ((m : ℕ) → s ≡ Mark m → ⊥)
-        → Stopped (high_or k s) at (at + 1) ≡ step_by f text at (second_sort f u k s t)
-    second_other u k t (Graphic c) o p = absurd (o c refl)
-    second_other u k t (Mark m) o p = absurd (p m refl)
-    second_other u k t Underline o p = refl
-    second_other u k t Shift o p = refl
-    second_other u k t Control o p = refl
-    second_other u k t SequenceStart o p = refl
-    second_other u k t (Refused n) o p = refl
-
     -- the follower of a mark, d octets behind the first
     pub follower_behind : (d m : ℕ) (u : Bool)
         → step_by f text at (follower_head f m u (at + d - at) (drop (at + d) text))

@@ -1,15 +1,13 @@
 -- Proved equal to the grammar (Reader: reads, refuses_exactly_by) and to 01's rows (NumbersExactly: step_exactly): what the reader of an
 -- element answers.
 -- Assumes nothing.
-use Rattle.std.specs.Prelude.{ℕ, ◌+◌, Bool, true, false, List, [], ◌∷◌, drop, eqb}
+use Rattle.std.specs.Prelude.{ℕ, ◌+◌, Bool, true, false, List, [], ◌∷◌, drop, eqb, Option, Some, None}
 use Rattle.run.specs.Choice.{pick}
 use Rattle.run.specs.Head.{Head, element, refused, none}
 use Rattle.run.specs.Tagged.{tagged}
 use Rattle.sorts.specs.declared.Form.{Form}
 use Rattle.sorts.specs.declared.Sort.{Sort}
 use Rattle.sorts.specs.declared.Sort.TheVariants.{Graphic, Mark, Underline, Shift, Control, SequenceStart, Refused}
-use Rattle.sorts.specs.declared.Found.{Found}
-use Rattle.sorts.specs.declared.Found.TheVariants.{Char, Nothing}
 use Rattle.squares.specs.Squares.{square_of}
 use Rattle.sorts.specs.Sorts.{sort_in, shifted_in, sort_number}
 use Rattle.sequence_reading.specs.Grammar.{Sequence}
@@ -26,9 +24,9 @@ abbrev pub high_or : ℕ → Sort → ℕ
 high_or k s = pick (eqb (sort_number s) 5) 5 k
 
 -- a follower, d octets behind the element's first, that a mark has or has not
-abbrev pub pair_head : Bool → ℕ → Found → Sort → Head Element
-pair_head u d (Char c) s = element (One (graphic_word u c)) (d + 1)
-pair_head u d Nothing s = refused (high_or 3 s) d
+abbrev pub pair_head : Bool → ℕ → Option ℕ → Sort → Head Element
+pair_head u d (Some c) s = element (One (graphic_word u c)) (d + 1)
+pair_head u d None s = refused (high_or 3 s) d
 
 -- what follows a mark
 unfoldable pub follower_head : Form → ℕ → Bool → ℕ → List ℕ → Head Element

@@ -2,12 +2,11 @@
 -- with which number at which octet. Nothing here speaks of a reader. What an octet is in a form is `sort_in` of crate `sorts`, and after
 -- SS2 `shifted_in`.
 -- Assumes nothing.
-use Rattle.std.specs.Prelude.{ℕ, ◌<◌, ◌≡◌, Bool, true, false, List, [], ◌∷◌, ◌++◌, length}
+use Rattle.std.specs.Prelude.{ℕ, ◌<◌, ◌≡◌, Bool, true, false, List, [], ◌∷◌, ◌++◌, length, Some, None}
 use Rattle.run.specs.Grammar.{Begins}
 use Rattle.sorts.specs.declared.Form.{Form}
 use Rattle.sorts.specs.declared.Sort.{Sort}
 use Rattle.sorts.specs.declared.Sort.TheVariants.{Graphic, Mark, Underline, Shift, Control, SequenceStart, Refused}
-use Rattle.sorts.specs.declared.Found.TheVariants.{Char, Nothing}
 use Rattle.squares.specs.Squares.{square_of}
 use Rattle.sorts.specs.Sorts.{sort_in, shifted_in}
 use Rattle.sequence_reading.specs.Grammar.{Sequence, SpellsSequence, RefusesSequence}
@@ -30,7 +29,7 @@ pub data Spells (f : Form) : List ℕ → Element → Type 0 where
   -- "CC stands before a spacing character"
   underlined : {u o c : ℕ} → sort_in f u ≡ Underline → sort_in f o ≡ Graphic c → Spells f (u ∷ o ∷ []) (One (graphic_word true c))
   -- a mark, and one of its listed followers
-  pair : {p : List ℕ} {m c : ℕ} {u : Bool} (l : ℕ) → Awaits f p m u → square_of m l ≡ Char c
+  pair : {p : List ℕ} {m c : ℕ} {u : Bool} (l : ℕ) → Awaits f p m u → square_of m l ≡ Some c
       → Spells f (p ++ (l ∷ [])) (One (graphic_word u c))
   -- "Controls"
   control : {o : ℕ} → sort_in f o ≡ Control → Spells f (o ∷ []) (One (control_word o))
@@ -57,7 +56,7 @@ pub data Refuses (f : Form) : List ℕ → ℕ → ℕ → Type 0 where
   -- 2: "element begins with 0E, 0F, 1B, 1D, and 19 in forms 1 and 3"
   escape : {o : ℕ} {t : List ℕ} → sort_in f o ≡ Refused 2 → Refuses f (o ∷ t) 2 0
   -- 3: "what follows a mark isn't its listed follower"
-  not_listed : {p : List ℕ} {m : ℕ} {u : Bool} (l : ℕ) (t : List ℕ) → Awaits f p m u → square_of m l ≡ Nothing
+  not_listed : {p : List ℕ} {m : ℕ} {u : Bool} (l : ℕ) (t : List ℕ) → Awaits f p m u → square_of m l ≡ None
       → (sort_in f l ≡ Refused 5 → ⊥) → Refuses f (p ++ (l ∷ t)) 3 (length p)
   -- 3: "or what follows CC may not"
   may_not : {u o : ℕ} {t : List ℕ} → sort_in f u ≡ Underline → MayNot (sort_in f o) → Refuses f (u ∷ o ∷ t) 3 1

@@ -12,7 +12,7 @@ ghost use Rattle.element_reading.specs.Promises.{ElementAtPromise};
 
 use element_words::Element;
 use sequence_reading::Reading;
-use sorts::{Form, Found, Sort};
+use sorts::{Form, Sort};
 
 // What stands at a place.
 #[derive(Clone, Copy)]
@@ -35,9 +35,10 @@ fn graphic_word(under: bool, c: u32) -> u32
     ensures { result ≡ graphic_word under c }
 {
     if under {
-        return element_words::UNDERLINED_FROM + c;
+        element_words::UNDERLINED_FROM + c
+    } else {
+        c
     }
-    c
 }
 
 // The element at `place` is refused with a number; `count` is the deciding octet's place.
@@ -56,12 +57,7 @@ fn high_or(sort: Sort, number: usize) -> usize
     ensures { result ≡ high_or number sort }
 {
     match sort {
-        Sort::Refused(n) => {
-            if n == 5 {
-                return 5;
-            }
-            number
-        }
+        Sort::Refused(5) => 5,
         _ => number,
     }
 }
@@ -75,8 +71,7 @@ fn follower_step(form: Form, mark: u8, under: bool, text: &[u8], at: usize, i: u
         return refused_at(4, at, i);
     }
     let l = text[i];
-    let found = squares::paired(mark, l);
-    let Found::Char(c) = found else {
+    let Some(c) = squares::paired(mark, l) else {
         return refused_at(high_or(sorts::sort_in(form, l), 3), at, i);
     };
     let word = graphic_word(under, c);
@@ -135,15 +130,17 @@ fn head_word(middle: u8, last: u8, count: usize) -> u32
     requires { count ≤ 8 }
     ensures { result ≡ sequences_from + 0x10000 * middle + 0x100 * last + count }
 {
-    element_words::SEQUENCES_FROM + 0x10000 * (middle as u32) + 0x100 * (last as u32) + count as u32
+    element_words::SEQUENCES_FROM
+        + 0x10000 * u32::from(middle)
+        + 0x100 * u32::from(last)
+        + count as u32
 }
 
 // The control sequence at `at`.
 fn sequence_step(text: &[u8], at: usize) -> Step
     ensures { (f : Form) → result ≡ step_by f text.now at (as_element (sequence_head (drop at text.now))) }
 {
-    let reading = sequence_reading::read_sequence(text, at);
-    match reading {
+    match sequence_reading::read_sequence(text, at) {
         Reading::Whole {
             middle,
             last,
@@ -184,7 +181,7 @@ pub fn element_at(form: Form, text: &[u8], at: usize) -> Step
         Sort::Underline => underline_step(form, text, at),
         Sort::Shift => shift_step(form, text, at),
         Sort::Control => {
-            let word = element_words::CONTROLS_FROM + o as u32;
+            let word = element_words::CONTROLS_FROM + u32::from(o);
             Step::Element(
                 Element::One(word),
                 at + 1,

@@ -1,15 +1,15 @@
 -- Canonical spelling of an element: the definition gives exactly the relation, the test says it of octets, and writing keeps the record of
 -- promises of `run`. Over the form.
 -- Assumes nothing.
-use Prim.Native.Nat.{ℕ, ◌+◌, ◌-◌, ◌≤◌, ◌<◌}
+use Prim.Native.Nat.{ℕ, ◌+◌, ◌-◌, ◌≤◌, ◌<◌, min}
 use mathlib.Core.Path.{◌≡◌, refl, sym, ap, ap₂, ◌∙◌, subst, subst₂}
 use mathlib.Core.Logic.{◌↔◌}
 use mathlib.Core.Bool.{Bool, true, false}
 use mathlib.Core.List.{List, [], ◌∷◌, ◌++◌}
 use native.Mathlib.Omega.{arith}
 use lib.ListN.{length}
-use lib.Dec.{ltb, eqb}
-use borrow.Author.Tests.{lt-ltb, le-ltb, ltb-false, eqb-true}
+use lib.Dec.{ltb}
+use borrow.Author.Tests.{lt-ltb, le-ltb, ltb-false}
 use Rattle.run.specs.Choice.{pick, same_octets}
 use Rattle.run.specs.Head.{Head, element, refused, none}
 use Rattle.run.specs.Grammar.{Reads}
@@ -18,11 +18,12 @@ use Rattle.run.proofs.Choices.{pick_case, same_octets_are, are_same_octets}
 use Rattle.run.proofs.Spellers.{reads_as, spelt_reads, why}
 use Rattle.sorts.specs.declared.Form.{Form}
 use Rattle.sorts.specs.declared.Sort.TheVariants.{Underline, Control}
+use Rattle.std.specs.Prelude.{Option, Some, None}
 use Rattle.spelling.specs.declared.Spelling.{Spelling}
-use Rattle.spelling.specs.declared.Spelling.TheVariants.{One as Single, Shifted, Pair, ShiftedPair, Unspelt}
+use Rattle.spelling.specs.declared.Spelling.TheVariants.{One as Single, Shifted, Pair, ShiftedPair}
 use Rattle.sorts.specs.Forms.{CC, CSI}
 use Rattle.sorts.specs.Sorts.{sort_in}
-use Rattle.spelling.specs.CanonicalSpelling.{octets_of, Canonical}
+use Rattle.spelling.specs.CanonicalSpelling.{octets_of, spelt_octets, Canonical}
 use Rattle.spelling.specs.SpellingGiven.{spell_in}
 use Rattle.spelling.proofs.CanonicalExactly.{exactly, reads_back}
 use Rattle.spelling.proofs.SpellingFacts.{code_point_small}
@@ -35,39 +36,24 @@ use Rattle.element_words.specs.declared.Element.TheVariants.{One}
 use Rattle.element_words.specs.Words.{underlined_from, controls_from, sequences_from}
 use Rattle.element_words.specs.Words.{graphic_word, control_word, head_word, sequence_element, words_of, Proper, Means, means, sequence_of}
 use Rattle.element_words.specs.Words.{word_head}
-use Rattle.element_spelling.specs.ElementOctets.{CanonicalElement, Held, Writes, NoneHeld, sort_tag, after_cc, spell_word}
+use Rattle.element_spelling.specs.ElementOctets.{CanonicalElement, Held, Writes, NoneHeld, is_underline, is_control, is_start, after_cc, spell_word}
 use Rattle.element_spelling.specs.ElementOctets.{spell_sequence_words, spell_element, is_canonical, spell_head}
-use Rattle.element_spelling.proofs.Steps.{tag_back}
+use Rattle.element_spelling.proofs.Steps.{underline_is, control_is, start_is, after_spelt}
 use Rattle.sequence_reading.proofs.EightValues.{values_back}
 use Rattle.element_words.proofs.Words.{sequence_back, is_sequence_lem, words_read, words_refused}
 
--- ---- CC before a spelling
-
-after_spelt : (x : Spelling) → (x ≡ Unspelt → ⊥) → after_cc (octets_of x) ≡ CC ∷ octets_of x
-after_spelt (Single o) n = refl
-after_spelt (Shifted o) n = refl
-after_spelt (Pair m l) n = refl
-after_spelt (ShiftedPair m l) n = refl
-after_spelt Unspelt n = absurd (n refl)
-
 -- no octets are no spelling
-abbrev pub Some : List ℕ → Type 0
-Some s = s ≡ [] → ⊥
-
-nothing_spelt : (x : Spelling) → Some (octets_of x) → x ≡ Unspelt → ⊥
-nothing_spelt x n e = n (ap octets_of e)
-
-nothing_after : (x : Spelling) → Some (after_cc (octets_of x)) → x ≡ Unspelt → ⊥
-nothing_after x n e = n (ap (λ (y : Spelling). after_cc (octets_of y)) e)
+abbrev pub HasOctets : List ℕ → Type 0
+HasOctets s = s ≡ [] → ⊥
 
 module _ (f : Form) where
   -- ---- the words of each kind of element, spelt
 
-  pub spell_graphic : (c : ℕ) → c < underlined_from → spell_word f (graphic_word false c) ≡ octets_of (spell_in f c)
+  pub spell_graphic : (c : ℕ) → c < underlined_from → spell_word f (graphic_word false c) ≡ spelt_octets (spell_in f c)
   spell_graphic c h = rw (lt-ltb c underlined_from h)
 
   pub spell_underlined : (c : ℕ) → c < underlined_from → sort_in f CC ≡ Underline
-      → spell_word f (graphic_word true c) ≡ after_cc (octets_of (spell_in f c))
+      → spell_word f (graphic_word true c) ≡ after_cc (spelt_octets (spell_in f c))
   spell_underlined c h s =
       let w : underlined_from + c - underlined_from ≡ c = omega arith in
       rw (le-ltb (underlined_from + c) underlined_from (omega arith), lt-ltb (underlined_from + c) controls_from (omega arith), s, w)
@@ -84,13 +70,14 @@ module _ (f : Form) where
       )
 
   pub spell_sequence_lem : (q : Sequence) → Fine q
-      → spell_element f (sequence_element q) ≡ pick (eqb (sort_tag (sort_in f CSI)) 4) (spell_sequence q) []
+      → spell_element f (sequence_element q) ≡ pick (is_start (sort_in f CSI)) (spell_sequence q) []
   unfolding spell_element
   spell_sequence_lem q fine =
-      ap (spell_sequence_words f (head_word q)) (values_back q.values fine.eight)
-      ∙ ap (λ (b : Bool). pick (eqb (sort_tag (sort_in f CSI)) 4) (pick b (spell_sequence (sequence_of (head_word q) q.values)) []) [])
+      let n : min (length q.values) 8 ≡ length q.values = omega (arith, fine.eight) in
+      ap (spell_sequence_words f (head_word q)) (rw n (values_back q.values fine.eight))
+      ∙ ap (λ (b : Bool). pick (is_start (sort_in f CSI)) (pick b (spell_sequence (sequence_of (head_word q) q.values)) []) [])
       (is_sequence_lem q fine)
-      ∙ ap (λ (r : Sequence). pick (eqb (sort_tag (sort_in f CSI)) 4) (spell_sequence r) []) (sequence_back q fine)
+      ∙ ap (λ (r : Sequence). pick (is_start (sort_in f CSI)) (spell_sequence r) []) (sequence_back q fine)
 
   canonical_small : {c : ℕ} {x : Spelling} → Canonical f c x → c < underlined_from
   canonical_small {c} k = omega (arith, code_point_small f c (reads_back f c k))
@@ -99,10 +86,9 @@ module _ (f : Form) where
   pub canonical_given : {s : List ℕ} {e : Element} → CanonicalElement f s e → spell_element f e ≡ s
   unfolding spell_element
   canonical_given (CanonicalElement.graphic {c} {x} k) =
-      spell_graphic c (canonical_small k) ∙ ap octets_of ((exactly f c x).0 k).0
+      spell_graphic c (canonical_small k) ∙ ap spelt_octets ((exactly f c x).0 k)
   canonical_given (CanonicalElement.underlined {c} {x} s k) =
-      let e = (exactly f c x).0 k in
-      spell_underlined c (canonical_small k) s ∙ ap (λ (y : Spelling). after_cc (octets_of y)) e.0 ∙ after_spelt x e.1
+      spell_underlined c (canonical_small k) s ∙ ap (λ (y : Option Spelling). after_cc (spelt_octets y)) ((exactly f c x).0 k) ∙ after_spelt x
   canonical_given (CanonicalElement.control {o} s) = spell_control o (omega (arith, control_small f o s)) s
   canonical_given (CanonicalElement.sequence {s} {q} st k) =
       let e = (canonical_exactly s q).0 k in
@@ -110,46 +96,46 @@ module _ (f : Form) where
 
   -- ---- what is given is canonical
 
-  given_graphic : (w : ℕ) → Some (octets_of (spell_in f w)) → CanonicalElement f (octets_of (spell_in f w)) (One w)
-  given_graphic w n = CanonicalElement.graphic ((exactly f w (spell_in f w)).1 (refl, nothing_spelt (spell_in f w) n))
+  given_graphic : (w : ℕ) → HasOctets (spelt_octets (spell_in f w)) → CanonicalElement f (spelt_octets (spell_in f w)) (One w)
+  given_graphic w = go (spell_in f w) refl
+    where
+      go : (x : Option Spelling) → spell_in f w ≡ x → HasOctets (spelt_octets x) → CanonicalElement f (spelt_octets x) (One w)
+      go (Some x) e n = CanonicalElement.graphic ((exactly f w x).1 e)
+      go None e n = absurd (n refl)
 
   given_underlined : (w : ℕ) → underlined_from ≤ w
-      → Some (pick (eqb (sort_tag (sort_in f CC)) 1) (after_cc (octets_of (spell_in f (w - underlined_from)))) [])
-      → CanonicalElement f (pick (eqb (sort_tag (sort_in f CC)) 1) (after_cc (octets_of (spell_in f (w - underlined_from)))) []) (One w)
-  given_underlined w h = go (eqb (sort_tag (sort_in f CC)) 1) refl
+      → HasOctets (pick (is_underline (sort_in f CC)) (after_cc (spelt_octets (spell_in f (w - underlined_from)))) [])
+      → CanonicalElement f (pick (is_underline (sort_in f CC)) (after_cc (spelt_octets (spell_in f (w - underlined_from)))) []) (One w)
+  given_underlined w h = go (is_underline (sort_in f CC)) refl (spell_in f (w - underlined_from)) refl
     where
-      x : Spelling
-      x = spell_in f (w - underlined_from)
-
       c : underlined_from + (w - underlined_from) ≡ w
       c = omega arith
 
-      go : (b : Bool) → eqb (sort_tag (sort_in f CC)) 1 ≡ b → Some (pick b (after_cc (octets_of x)) [])
-          → CanonicalElement f (pick b (after_cc (octets_of x)) []) (One w)
-      go true e n =
-          let u : x ≡ Unspelt → ⊥ = nothing_after x n in
-          subst₂ (λ (s : List ℕ) (v : ℕ). CanonicalElement f s (One v)) (sym (after_spelt x u)) c
-          (CanonicalElement.underlined (tag_back (sort_in f CC) 1 (eqb-true (sort_tag (sort_in f CC)) 1 e) (omega arith))
-          ((exactly f (w - underlined_from) x).1 (refl, u)))
-      go false e n = absurd (n refl)
+      go : (b : Bool) → is_underline (sort_in f CC) ≡ b → (x : Option Spelling) → spell_in f (w - underlined_from) ≡ x
+          → HasOctets (pick b (after_cc (spelt_octets x)) []) → CanonicalElement f (pick b (after_cc (spelt_octets x)) []) (One w)
+      go true e (Some x) q n =
+          subst₂ (λ (s : List ℕ) (v : ℕ). CanonicalElement f s (One v)) (sym (after_spelt x)) c
+          (CanonicalElement.underlined (underline_is (sort_in f CC) e) ((exactly f (w - underlined_from) x).1 q))
+      go true e None q n = absurd (n refl)
+      go false e x q n = absurd (n refl)
 
-  given_control : (w : ℕ) → controls_from ≤ w → Some (pick (eqb (sort_tag (sort_in f (w - controls_from))) 3) ((w - controls_from) ∷ []) [])
-      → CanonicalElement f (pick (eqb (sort_tag (sort_in f (w - controls_from))) 3) ((w - controls_from) ∷ []) []) (One w)
-  given_control w h = go (eqb (sort_tag (sort_in f (w - controls_from))) 3) refl
+  given_control : (w : ℕ) → controls_from ≤ w → HasOctets (pick (is_control (sort_in f (w - controls_from))) ((w - controls_from) ∷ []) [])
+      → CanonicalElement f (pick (is_control (sort_in f (w - controls_from))) ((w - controls_from) ∷ []) []) (One w)
+  given_control w h = go (is_control (sort_in f (w - controls_from))) refl
     where
       c : controls_from + (w - controls_from) ≡ w
       c = omega arith
 
-      go : (b : Bool) → eqb (sort_tag (sort_in f (w - controls_from))) 3 ≡ b → Some (pick b ((w - controls_from) ∷ []) [])
+      go : (b : Bool) → is_control (sort_in f (w - controls_from)) ≡ b → HasOctets (pick b ((w - controls_from) ∷ []) [])
           → CanonicalElement f (pick b ((w - controls_from) ∷ []) []) (One w)
       go true e n =
           subst (λ (v : ℕ). CanonicalElement f ((w - controls_from) ∷ []) (One v)) c
           (CanonicalElement.control
-          (tag_back (sort_in f (w - controls_from)) 3 (eqb-true (sort_tag (sort_in f (w - controls_from))) 3 e) (omega arith)))
+          (control_is (sort_in f (w - controls_from)) e))
       go false e n = absurd (n refl)
 
   abbrev IfSome : Element → List ℕ → Type 0
-  IfSome e s = Some s → CanonicalElement f s e
+  IfSome e s = HasOctets s → CanonicalElement f s e
 
   given_word : (w : ℕ) → IfSome (One w) (spell_word f w)
   given_word w =
@@ -159,11 +145,11 @@ module _ (f : Form) where
       (λ c n. absurd (n refl))))
 
   given_sequence : (q : Sequence) → Fine q → IfSome (sequence_element q) (spell_element f (sequence_element q))
-  given_sequence q fine = subst (IfSome (sequence_element q)) (sym (spell_sequence_lem q fine)) (go (eqb (sort_tag (sort_in f CSI)) 4) refl)
+  given_sequence q fine = subst (IfSome (sequence_element q)) (sym (spell_sequence_lem q fine)) (go (is_start (sort_in f CSI)) refl)
     where
-      go : (b : Bool) → eqb (sort_tag (sort_in f CSI)) 4 ≡ b → IfSome (sequence_element q) (pick b (spell_sequence q) [])
+      go : (b : Bool) → is_start (sort_in f CSI) ≡ b → IfSome (sequence_element q) (pick b (spell_sequence q) [])
       go true e n =
-          CanonicalElement.sequence (tag_back (sort_in f CSI) 4 (eqb-true (sort_tag (sort_in f CSI)) 4 e) (omega arith))
+          CanonicalElement.sequence (start_is (sort_in f CSI) e)
           ((canonical_exactly (spell_sequence q) q).1 (fine, refl))
       go false e n = absurd (n refl)
 
@@ -173,18 +159,17 @@ module _ (f : Form) where
   given_canonical (Proper.sequence {q} fine) n = given_sequence q fine n
 
   -- a spelling has an octet at least
-  octets_some : (x : Spelling) → (x ≡ Unspelt → ⊥) → Some (octets_of x)
-  octets_some (Single o) n e = let w : ◌≡◌ {A = ℕ} 0 1 = cc in omega arith
-  octets_some (Shifted o) n e = let w : ◌≡◌ {A = ℕ} 0 1 = cc in omega arith
-  octets_some (Pair m l) n e = let w : ◌≡◌ {A = ℕ} 0 1 = cc in omega arith
-  octets_some (ShiftedPair m l) n e = let w : ◌≡◌ {A = ℕ} 0 1 = cc in omega arith
-  octets_some Unspelt n e = n refl
+  octets_some : (x : Spelling) → HasOctets (octets_of x)
+  octets_some (Single o) e = let w : ◌≡◌ {A = ℕ} 0 1 = cc in omega arith
+  octets_some (Shifted o) e = let w : ◌≡◌ {A = ℕ} 0 1 = cc in omega arith
+  octets_some (Pair m l) e = let w : ◌≡◌ {A = ℕ} 0 1 = cc in omega arith
+  octets_some (ShiftedPair m l) e = let w : ◌≡◌ {A = ℕ} 0 1 = cc in omega arith
 
-  cons_some : {o : ℕ} {s : List ℕ} → Some (o ∷ s)
+  cons_some : {o : ℕ} {s : List ℕ} → HasOctets (o ∷ s)
   cons_some e = let w : ◌≡◌ {A = ℕ} 0 1 = cc in omega arith
 
   pub canonical_some : {s : List ℕ} {e : Element} → CanonicalElement f s e → s ≡ [] → ⊥
-  canonical_some (CanonicalElement.graphic {c} {x} k) = octets_some x ((exactly f c x).0 k).1
+  canonical_some (CanonicalElement.graphic {c} {x} k) = octets_some x
   canonical_some (CanonicalElement.underlined s k) = cons_some
   canonical_some (CanonicalElement.control s) = cons_some
   canonical_some (CanonicalElement.sequence st (CanonicalSequence.canonical h p i)) = cons_some
@@ -225,7 +210,7 @@ module _ (f : Form) where
   pub written_spelt : (p s : List ℕ) → SpeltBy (spell_element f) Means p s ↔ Writes f p s
   written_spelt p s = (λ h. forth h.of h.spells h.gives h.some, back)
     where
-      forth : {p : List ℕ} (e : Element) → Means p e → spell_element f e ≡ s → Some s → Writes f p s
+      forth : {p : List ℕ} (e : Element) → Means p e → spell_element f e ≡ s → HasOctets s → Writes f p s
       forth e (means h) g n = let c = (spells_exactly s e).1 (h, g, n) in Writes.writes (Held.held c) c
 
       back : {p : List ℕ} → Writes f p s → SpeltBy (spell_element f) Means p s

@@ -1,75 +1,49 @@
 // One element, spelt in a form.
 #![tactic(auto)]
 
-ghost use Rattle.std.specs.Prelude.{◌≡◌, ◌+◌, ◌≤◌, length};
+ghost use Rattle.std.specs.Prelude.{◌≡◌, ◌+◌, ◌≤◌, [], length, MatchOption};
 ghost use Rattle.run.specs.Put.{Put, what_fits};
 ghost use Rattle.spelling.specs.CanonicalSpelling.{octets_of};
-ghost use Rattle.sequence_reading.specs.EightValues.{list_of};
-ghost use Rattle.element_spelling.specs.ElementOctets.{sort_tag, spell_word, spell_sequence_words};
+ghost use Rattle.element_spelling.specs.ElementOctets.{spell_word, spell_sequence_words, SpeltAs};
 ghost use Rattle.element_spelling.specs.ElementOctets.{word_spelling, is_underlined};
 ghost use Rattle.element_spelling.specs.Promises.{SpeltSizePromise, PutSpellingPromise};
 
 use element_words::Element;
-use sequence_reading::Values;
+use sequence_spelling::Sequence;
 use sorts::{Form, Sort};
 use spelling::Spelling;
-
-// The sorts that a spelling asks for, as `sort_tag` tells them.
-const UNDERLINE: u8 = 1;
-
-const CONTROL: u8 = 3;
-
-const SEQUENCE_START: u8 = 4;
 
 // A control's word is below this one, as a control is one octet.
 const PAST_CONTROLS: u32 = element_words::CONTROLS_FROM + 0x100;
 
-// The sorts that carry nothing, each by its tag; 0 for any other.
-fn sort_tag(sort: Sort) -> u8
-    ensures { result ≡ sort_tag sort }
-{
-    match sort {
-        Sort::Graphic(_) => 0,
-        Sort::Mark(_) => 0,
-        Sort::Underline => UNDERLINE,
-        Sort::Shift => 2,
-        Sort::Control => CONTROL,
-        Sort::SequenceStart => SEQUENCE_START,
-        Sort::Refused(_) => 0,
-    }
-}
-
 // What a word is spelt as, but for the CC of an underlined one: a character, an underlined character, a control.
-fn word_spelling(form: Form, w: u32) -> Spelling
+fn word_spelling(form: Form, w: u32) -> Option<Spelling>
     ensures { result ≡ word_spelling form w }
 {
     if w < element_words::UNDERLINED_FROM {
         return spelling::spell_in(form, w);
     }
     if w < element_words::CONTROLS_FROM {
-        if sort_tag(sorts::sort_in(form, sorts::CC)) == UNDERLINE {
+        if sorts::sort_in(form, sorts::CC) == Sort::Underline {
             return spelling::spell_in(form, w - element_words::UNDERLINED_FROM);
         }
-        return Spelling::Unspelt;
+        return None;
     }
     if w < PAST_CONTROLS {
         let o = (w - element_words::CONTROLS_FROM) as u8;
-        if sort_tag(sorts::sort_in(form, o)) == CONTROL {
-            return Spelling::One(o);
+        if sorts::sort_in(form, o) == Sort::Control {
+            return Some(Spelling::One(o));
         }
-        return Spelling::Unspelt;
+        return None;
     }
-    Spelling::Unspelt
+    None
 }
 
 // 01: "plus 2^24 if underlined".
 fn is_underlined(w: u32) -> bool
     ensures { result ≡ is_underlined w }
 {
-    if w < element_words::UNDERLINED_FROM {
-        return false;
-    }
-    w < element_words::CONTROLS_FROM
+    (element_words::UNDERLINED_FROM..element_words::CONTROLS_FROM).contains(&w)
 }
 
 fn octets_in(x: Spelling) -> usize
@@ -80,7 +54,6 @@ fn octets_in(x: Spelling) -> usize
         Spelling::Shifted(_) => 2,
         Spelling::Pair(_, _) => 2,
         Spelling::ShiftedPair(_, _) => 3,
-        Spelling::Unspelt => 0,
     }
 }
 
@@ -88,10 +61,10 @@ fn octets_in(x: Spelling) -> usize
 fn word_size(form: Form, w: u32) -> usize
     ensures { result ≡ length (spell_word form w) }
 {
-    let n = octets_in(word_spelling(form, w));
-    if n == 0 {
+    let Some(x) = word_spelling(form, w) else {
         return 0;
-    }
+    };
+    let n = octets_in(x);
     if is_underlined(w) {
         return n + 1;
     }
@@ -117,7 +90,6 @@ fn put_octets(x: Spelling, out: &mut [u8], at: usize) -> usize
             let j = run::put(out, i, m);
             run::put(out, j, l)
         }
-        Spelling::Unspelt => at,
     }
 }
 
@@ -125,15 +97,14 @@ fn put_octets(x: Spelling, out: &mut [u8], at: usize) -> usize
 fn put_word(form: Form, w: u32, out: &mut [u8], at: usize) -> usize
     ensures { Put out.old at (what_fits out.old at (spell_word form w)) out.new result }
 {
-    let x = word_spelling(form, w);
+    let Some(x) = word_spelling(form, w) else {
+        return at;
+    };
     let n = octets_in(x);
     if out.len() < at {
         return at;
     }
     let room = out.len() - at;
-    if n == 0 {
-        return at;
-    }
     if is_underlined(w) {
         if room < n + 1 {
             return at;
@@ -147,44 +118,47 @@ fn put_word(form: Form, w: u32, out: &mut [u8], at: usize) -> usize
     put_octets(x, out, at)
 }
 
-// The octets of a head word and its values, where the form has sequences and they are one; else none.
-fn sequence_words_size(form: Form, head: u32, values: &[u32]) -> usize
-    ensures { result ≡ length (spell_sequence_words form head values.now) }
+// The sequence of a head word and its values, where the form has sequences and they are one.
+fn sequence_in(form: Form, head: u32, values: &[u32]) -> Option<Sequence<'_>>
+    ensures { MatchOption result (spell_sequence_words form head values.now ≡ []) (SpeltAs form head values.now) }
 {
-    if sort_tag(sorts::sort_in(form, sorts::CSI)) != SEQUENCE_START {
-        return 0;
-    }
-    if !element_words::is_sequence(head, values) {
-        return 0;
+    if sorts::sort_in(form, sorts::CSI) != Sort::SequenceStart
+        || !element_words::is_sequence(head, values)
+    {
+        return None;
     }
     let middle = (head - element_words::SEQUENCES_FROM) / 0x10000;
     let last = head / 0x100 % 0x100;
-    sequence_spelling::sequence_size(middle as u8, last as u8, values)
+    Some(Sequence {
+        middle: middle as u8,
+        last: last as u8,
+        values,
+    })
 }
 
+#[tactic(auto, unfolding(sequence_spelling::specs::SequenceOctets::size_of))]
+fn sequence_words_size(form: Form, head: u32, values: &[u32]) -> usize
+    ensures { result ≡ length (spell_sequence_words form head values.now) }
+{
+    match sequence_in(form, head, values) {
+        Some(sequence) => sequence.size(),
+        None => 0,
+    }
+}
+
+#[tactic(auto, unfolding(sequence_spelling::specs::SequenceOctets::put_sequence))]
 fn put_sequence_words(form: Form, head: u32, values: &[u32], out: &mut [u8], at: usize) -> usize
     ensures { Put out.old at
         (what_fits out.old at (spell_sequence_words form head values.now)) out.new result }
 {
-    if sort_tag(sorts::sort_in(form, sorts::CSI)) != SEQUENCE_START {
-        return at;
+    match sequence_in(form, head, values) {
+        Some(sequence) => sequence.put(out, at),
+        None => at,
     }
-    if !element_words::is_sequence(head, values) {
-        return at;
-    }
-    let middle = (head - element_words::SEQUENCES_FROM) / 0x10000;
-    let last = head / 0x100 % 0x100;
-    sequence_spelling::put_sequence(middle as u8, last as u8, values, out, at)
-}
-
-// The eight values of a struct as an array.
-fn eight(v: Values) -> [u32; 8]
-    ensures { result ≡ list_of v }
-{
-    [v.v0, v.v1, v.v2, v.v3, v.v4, v.v5, v.v6, v.v7]
 }
 
 // How many octets an element's words are spelt with in a form; 0 where they are no element that it holds.
+#[tactic(auto, unfolding(crate::specs::ElementOctets::spell_element))]
 pub fn spelt_size(form: Form, e: Element) -> usize
     ensures { SpeltSizePromise form e result }
 {
@@ -194,16 +168,13 @@ pub fn spelt_size(form: Form, e: Element) -> usize
             head,
             count,
             values,
-        } => {
-            let all = eight(values);
-            let n = element_words::kept(count);
-            sequence_words_size(form, head, &all[..n])
-        }
+        } => { sequence_words_size(form, head, &values[..element_words::kept(count)]) }
     }
 }
 
 // Writes the spelling of an element's words at `at` and answers the place after it; where they are no element that the form holds or the
 // room is short, it does nothing and answers `at`.
+#[tactic(auto, unfolding(crate::specs::ElementOctets::spell_element))]
 pub fn put_spelling(form: Form, e: Element, out: &mut [u8], at: usize) -> usize
     ensures { PutSpellingPromise form e out.old at result out.new }
 {
@@ -213,10 +184,6 @@ pub fn put_spelling(form: Form, e: Element, out: &mut [u8], at: usize) -> usize
             head,
             count,
             values,
-        } => {
-            let all = eight(values);
-            let n = element_words::kept(count);
-            put_sequence_words(form, head, &all[..n], out, at)
-        }
+        } => { put_sequence_words(form, head, &values[..element_words::kept(count)], out, at) }
     }
 }

@@ -38,9 +38,6 @@ module _ (h : ℕ) (vs : List ℕ) where
       go true e = absurd (n e)
       go false e = refl
 
-  pub low_head : h < sequences_from → false ≡ is_sequence h vs
-  low_head l = never (λ e. let z = (is_true e).1 in omega arith)
-
   pub high_middle : 0x2F < (h - sequences_from) / 0x10000 → false ≡ is_sequence h vs
   high_middle l = never (λ e. ⊎_elim (λ z. omega arith) (λ z. omega arith) (is_true e).0.middle)
 
@@ -70,8 +67,5 @@ module _ (h : ℕ) (vs : List ℕ) where
       ∙ ap (λ (b : Bool). pick b (eqb (head_word (sequence_of h vs)) h) false) (sym ((fine_or (is_fine (sequence_of h vs)) refl).1 n))
 
 module _ (h : ℕ) (vs : List ℕ) (e : is_sequence h vs ≡ true) where
-  pub head_enough : sequences_from ≤ h
-  head_enough = omega (arith, (is_true h vs e).1)
-
   pub middle_small : (h - sequences_from) / 0x10000 < 0x100
   middle_small = ⊎_elim (λ z. omega arith) (λ z. omega arith) (is_true h vs e).0.middle

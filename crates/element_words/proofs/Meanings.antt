@@ -1,26 +1,20 @@
 -- What each way out of the code that makes an element of words, and words of an element, rests on.
 -- Assumes nothing.
-use Prim.Native.Nat.{ℕ, ◌+◌, ◌-◌, ◌%◌, ◌≤◌, ◌<◌, min}
+use Prim.Native.Nat.{ℕ, ◌+◌, ◌-◌, ◌%◌, ◌≤◌, ◌<◌}
 use mathlib.Core.Path.{◌≡◌, sym, ap, ap₂, ◌∙◌, subst}
 use mathlib.Core.Bool.{true, false}
-use mathlib.Core.List.{List, [], ◌∷◌, ◌++◌}
+use mathlib.Core.List.{List, ◌∷◌}
 use native.Mathlib.Omega.{arith}
-use native.Mathlib.Numerals.{add-one}
 use lib.ListN.{length, get_or, take, drop, length-take, length-drop, drop_of_length-le}
-use lib.Seq.{take-suc}
 use borrow.Author.Tests.{lt-ltb, le-ltb}
-use Rattle.run.specs.Put.{Put}
 use Rattle.run.proofs.FromPlace.{at_place}
-use Rattle.run.proofs.Puts.{put_as, put_both}
-use Rattle.sequence_reading.specs.declared.Values.{Values}
-use Rattle.sequence_reading.specs.EightValues.{values_of, list_of}
-use Rattle.element_words.specs.declared.Element.{Element}
+use Rattle.sequence_reading.specs.EightValues.{values_of}
 use Rattle.element_words.specs.declared.Element.TheVariants.{One, Sequence as SequenceOf}
 use Rattle.element_words.specs.declared.Meant.TheVariants.{Element as Word, NoElement, End}
 use Rattle.element_words.specs.Words.{sequences_from}
-use Rattle.element_words.specs.Words.{sequence_element, words_of, sequence_of, is_sequence, word_head, meant_of, meant_at}
+use Rattle.element_words.specs.Words.{sequence_element, sequence_of, is_sequence, word_head, meant_of, meant_at}
 use Rattle.element_words.proofs.HeadWords.{is_true, count_is, never}
-use Rattle.element_words.proofs.Words.{sequence_head_lem, kept_values}
+use Rattle.element_words.proofs.Words.{sequence_head_lem}
 
 -- ---- the element that words are
 
@@ -66,7 +60,7 @@ module _ (words : List ℕ) (at : ℕ) where
       pub not_words : is_sequence (get_or words at 0) part ≡ false → NoElement ≡ meant_at words at
       not_words e = no_sequence (subst (λ (l : List ℕ). is_sequence (get_or words at 0) l ≡ false) part_is e)
 
-      pub are_words : (v : Values) → is_sequence (get_or words at 0) part ≡ true → v ≡ values_of part
+      pub are_words : (v : List ℕ) → is_sequence (get_or words at 0) part ≡ true → v ≡ values_of part
           → Word (SequenceOf (get_or words at 0) (get_or words at 0 % 0x100) v) (at + 1 + get_or words at 0 % 0x100) ≡ meant_at words at
       are_words v e q =
           let w : ℕ = get_or words at 0 in
@@ -76,23 +70,3 @@ module _ (words : List ℕ) (at : ℕ) where
           let s : SequenceOf w (w % 0x100) v ≡ sequence_element (sequence_of w part) = cc in
           ap₂ Word s k
           ∙ sym (here ∙ ap (meant_of at) (sequence_head_lem w (drop (at + 1) words) part l (sym part_is) e))
-
--- ---- the words of an element
-
-pub sequence_words : (h n : ℕ) (v : Values) → 1 + min n 8 ≡ length (words_of (SequenceOf h n v))
-sequence_words h n v = omega (arith, length-take n (list_of v))
-
-pub values_more : (v : Values) (k x : ℕ) {a b c : List ℕ} {i j m : ℕ} → k < 8 → Put a i (take k (list_of v)) b j → Put b j (x ∷ []) c m
-    → x ≡ get_or (list_of v) k 0 → Put a i (take (k + 1) (list_of v)) c m
-values_more v k x h p q e =
-    put_as
-    (ap (λ (y : ℕ). take k (list_of v) ++ (y ∷ [])) e
-    ∙ sym (take-suc (list_of v) k 0 h)
-    ∙ ap (λ (n : ℕ). take n (list_of v)) (sym (add-one k)))
-    (put_both p q)
-
-pub words_one : (e : Element) (w : ℕ) → e ≡ One w → words_of e ≡ w ∷ []
-words_one e w q = ap words_of q
-
-pub words_sequence : (e : Element) (h n k : ℕ) (v : Values) → e ≡ SequenceOf h k v → n ≡ min k 8 → words_of e ≡ h ∷ take n (list_of v)
-words_sequence e h n k v q a = ap words_of q ∙ ap (λ (l : List ℕ). h ∷ l) (sym (ap (λ (i : ℕ). take i (list_of v)) a ∙ kept_values k v))

@@ -2,20 +2,18 @@
 -- Assumes nothing.
 use Prim.Native.Nat.{ℕ, ◌+◌, ◌-◌, ◌/◌, ◌%◌, ◌≤◌, ◌<◌, min}
 use mathlib.Core.Path.{◌≡◌, refl, sym, ap, ap₂, ◌∙◌, subst, subst₂}
-use mathlib.Core.Bool.{Bool, true, false}
+use mathlib.Core.Bool.{true, false}
 use mathlib.Core.List.{List, [], ◌∷◌, ◌++◌}
 use native.Mathlib.Omega.{arith}
 use lib.ListN.{length, take, drop, length-take, take-append-drop}
-use lib.Seq.{take_all, take-append_seam}
+use lib.Seq.{take-append_seam}
 use lib.Dec.{ltb, eqb, lit<, lit≤}
-use borrow.Author.Tests.{lt-ltb, le-ltb, ltb-true, ltb-false, eq-eqb, eqb-true}
+use borrow.Author.Tests.{lt-ltb, le-ltb, ltb-true, eq-eqb, eqb-true}
 use Rattle.run.specs.Choice.{pick}
 use Rattle.run.proofs.Choices.{pick_case, both_true, true_both}
 use Rattle.run.specs.Grammar.{Begins, Reads}
 use Rattle.run.specs.Head.{Head, element, refused, none}
-use Rattle.sequence_reading.specs.declared.Values.{Values}
 use Rattle.sequence_reading.specs.Grammar.{Sequence}
-use Rattle.sequence_reading.specs.EightValues.{list_of}
 use Rattle.sequence_reading.proofs.EightValues.{values_back}
 use Rattle.sequence_spelling.specs.SequenceOctets.{Fine, is_fine}
 use Rattle.sequence_spelling.proofs.Exactly.{fine_test}
@@ -23,20 +21,6 @@ use Rattle.element_words.specs.declared.Element.{Element}
 use Rattle.element_words.specs.declared.Element.TheVariants.{One, Sequence as SequenceOf}
 use Rattle.element_words.specs.Words.{sequences_from}
 use Rattle.element_words.specs.Words.{head_word, sequence_element, words_of, Proper, Means, means, sequence_of, is_sequence, word_head}
-
--- ---- the values that a struct of eight keeps
-
-min_by : (n : ℕ) (l : List ℕ) → length l ≡ 8 → (b : Bool) → ltb n 8 ≡ b → take (min n 8) l ≡ take n l
-min_by n l h true e = ap (λ (k : ℕ). take k l) (let z = ltb-true n 8 e in let y : min n 8 ≡ n = omega arith in y)
-min_by n l h false e =
-    let z = ltb-false n 8 e in
-    take_all (min n 8) l (omega arith) ∙ sym (take_all n l (omega arith))
-
-pub kept_values : (n : ℕ) (v : Values) → take (min n 8) (list_of v) ≡ take n (list_of v)
-kept_values n v = min_by n (list_of v) refl (ltb n 8) refl
-
-pub part_count : (n k : ℕ) (l : List ℕ) (v : Values) → n ≡ min k 8 → l ≡ list_of v → n ≡ length (take n l)
-part_count n k l v e q = omega (arith, length-take n l, ap length q)
 
 pub sequence_head_lem : (w : ℕ) (ws vs : List ℕ) → sequences_from ≤ w → take (w % 0x100) ws ≡ vs → is_sequence w vs ≡ true
     → word_head (w ∷ ws) ≡ element (sequence_element (sequence_of w vs)) (w % 0x100 + 1)
@@ -66,7 +50,9 @@ module _ (q : Sequence) (fine : Fine q) where
   head_high = omega arith
 
   pub words_of_all : words_of (sequence_element q) ≡ head_word q ∷ q.values
-  words_of_all = ap (λ (l : List ℕ). head_word q ∷ l) (values_back q.values fine.eight)
+  words_of_all =
+      let n : min (length q.values) 8 ≡ length q.values = omega (arith, fine.eight) in
+      ap (λ (l : List ℕ). head_word q ∷ l) (rw n (values_back q.values fine.eight))
 
   pub words_head : (t : List ℕ)
       → word_head (words_of (sequence_element q) ++ t) ≡ element (sequence_element q) (length (words_of (sequence_element q)))
@@ -119,7 +105,7 @@ words_some (SequenceOf h n vs) = omega arith
 -- no element has more words than the longest spelling has octets
 pub words_short : (e : Element) → length (words_of e) ≤ 34
 words_short (One w) = lit≤ tt
-words_short (SequenceOf h n vs) = omega (arith, length-take n (list_of vs))
+words_short (SequenceOf h n vs) = omega (arith, length-take (min n 8) vs)
 
 pub proper_head : {e : Element} → Proper e → (t : List ℕ) → word_head (words_of e ++ t) ≡ element e (length (words_of e))
 proper_head (Proper.one {w} h) t = one_head w t h

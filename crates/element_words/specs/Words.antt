@@ -2,11 +2,11 @@
 -- head of a list of words (Words: words_read; NumbersExactly: meant_exactly). One word below 2^26 is an element by its shape; whether a
 -- form has it is `Held`'s question.
 -- Assumes nothing.
-use Rattle.std.specs.Prelude.{ℕ, ◌+◌, ◌*◌, ◌-◌, ◌/◌, ◌%◌, ◌<◌, Bool, true, false, List, [], ◌∷◌, length, take, drop, eqb, ltb}
+use Rattle.std.specs.Prelude.{ℕ, ◌+◌, ◌*◌, ◌-◌, ◌/◌, ◌%◌, ◌<◌, min, Bool, true, false, List, [], ◌∷◌, length, take, drop, eqb, ltb}
 use Rattle.run.specs.Choice.{pick}
 use Rattle.run.specs.Head.{Head, element, refused, none}
 use Rattle.sequence_reading.specs.Grammar.{Sequence}
-use Rattle.sequence_reading.specs.EightValues.{values_of, list_of}
+use Rattle.sequence_reading.specs.EightValues.{values_of}
 use Rattle.sequence_spelling.specs.SequenceOctets.{Fine, is_fine}
 use Rattle.element_words.specs.declared.Element.{Element}
 use Rattle.element_words.specs.declared.Element.TheVariants.{One, Sequence as SequenceOf}
@@ -38,10 +38,10 @@ head_word q = sequences_from + 0x10000 * q.middle + 0x100 * q.last + length q.va
 abbrev pub sequence_element : Sequence → Element
 sequence_element q = SequenceOf (head_word q) (length q.values) (values_of q.values)
 
--- the words of an element
+-- the words of an element: of a sequence its head word, and as many of its eight values as it counts
 abbrev pub words_of : Element → List ℕ
 words_of (One w) = w ∷ []
-words_of (SequenceOf h n vs) = h ∷ take n (list_of vs)
+words_of (SequenceOf h n vs) = h ∷ take (min n 8) vs
 
 -- an element that some words are: one word below 2^26, or a sequence that can be
 pub data Proper : Element → Type 0 where

@@ -3,11 +3,11 @@
 
 ghost use Rattle.std.specs.Prelude.{◌≡◌, ◌∷◌, [], ◌+◌, ◌≤◌, ◌<◌, length, get_or, take};
 ghost use Rattle.run.specs.Put.{Put};
-ghost use Rattle.sequence_reading.specs.EightValues.{values_of, list_of};
+ghost use Rattle.sequence_reading.specs.EightValues.{values_of};
 ghost use Rattle.element_words.specs.Words.{words_of};
 ghost use Rattle.element_words.specs.Promises.{IsSequencePromise, ElementOfPromise, KeptPromise, WordsInPromise, PutWordsPromise};
 
-use sequence_reading::Values;
+use sequence_spelling::Sequence;
 
 // From where on the words of each kind stand. 01: "Graphic: its code point, plus 2^24 if underlined. Control: 2^25 + octet. Sequence:
 // 2^26 + ..".
@@ -18,7 +18,7 @@ pub const CONTROLS_FROM: u32 = 0x2000000;
 pub const SEQUENCES_FROM: u32 = 0x4000000;
 
 // An element, known by its words.
-#[derive(Clone, Copy)]
+#[derive(Clone, Copy, PartialEq, Eq)]
 pub enum Element {
     // a graphic or a control
     One(u32),
@@ -26,12 +26,12 @@ pub enum Element {
     Sequence {
         head: u32,
         count: usize,
-        values: Values,
+        values: [u32; 8],
     },
 }
 
 // What the words at a place are.
-#[derive(Clone, Copy)]
+#[derive(Clone, Copy, PartialEq, Eq)]
 pub enum Meant {
     // an element, and the place after its words
     Element(Element, usize),
@@ -53,36 +53,22 @@ pub fn is_sequence(head: u32, values: &[u32]) -> bool
         return false;
     }
     let last = head / 0x100 % 0x100;
-    let size = sequence_spelling::sequence_size(middle as u8, last as u8, values);
-    if size == 0 {
-        return false;
-    }
-    (head % 0x100) as usize == values.len()
-}
-
-fn value_or_0(values: &[u32], k: usize) -> u32
-    ensures { result ≡ get_or values.now k 0 }
-{
-    if k < values.len() {
-        return values[k];
-    }
-    0
+    let sequence = Sequence {
+        middle: middle as u8,
+        last: last as u8,
+        values,
+    };
+    sequence.size() != 0 && (head % 0x100) as usize == values.len()
 }
 
 // The first eight values, then zeros.
-fn values_of(values: &[u32]) -> Values
+fn values_of(values: &[u32]) -> [u32; 8]
     ensures { result ≡ values_of values.now }
 {
-    Values {
-        v0: value_or_0(values, 0),
-        v1: value_or_0(values, 1),
-        v2: value_or_0(values, 2),
-        v3: value_or_0(values, 3),
-        v4: value_or_0(values, 4),
-        v5: value_or_0(values, 5),
-        v6: value_or_0(values, 6),
-        v7: value_or_0(values, 7),
-    }
+    let n = kept(values.len());
+    let mut eight = [0; 8];
+    eight[..n].copy_from_slice(&values[..n]);
+    eight
 }
 
 // The element that the words at a place are. 01: number 10 for "words that are no element or are cut off".
@@ -120,10 +106,7 @@ pub fn element_of(words: &[u32], at: usize) -> Meant
 pub fn kept(count: usize) -> usize
     ensures { KeptPromise count result }
 {
-    if count < 8 {
-        return count;
-    }
-    8
+    count.min(8)
 }
 
 // How many words an element has.
@@ -132,11 +115,7 @@ pub fn words_in(e: Element) -> usize
 {
     match e {
         Element::One(_) => 1,
-        Element::Sequence {
-            head: _,
-            count,
-            values: _,
-        } => 1 + kept(count),
+        Element::Sequence { count, .. } => 1 + kept(count),
     }
 }
 
@@ -149,17 +128,14 @@ fn put_one(words: &mut [u32], at: usize, w: u32) -> usize
     at + 1
 }
 
-fn put_values(v: Values, n: usize, words: &mut [u32], at: usize) -> usize
+fn put_values(values: &[u32; 8], n: usize, words: &mut [u32], at: usize) -> usize
     requires { (n ≤ 8) × (at + n ≤ length words.old) }
-    ensures { Put words.old at (take n (list_of v)) words.new result }
+    ensures { Put words.old at (take n values.now) words.new result }
 {
-    let mut i = at;
-    let mut k = 0;
-    while k < n {
-        i = put_one(words, i, sequence_reading::value_at(v, k));
-        k += 1;
+    for k in 0..n {
+        words[at + k] = sequence_reading::value_at(values, k);
     }
-    i
+    at + n
 }
 
 fn put_all(e: Element, words: &mut [u32], at: usize) -> usize
@@ -174,7 +150,7 @@ fn put_all(e: Element, words: &mut [u32], at: usize) -> usize
             values,
         } => {
             let i = put_one(words, at, head);
-            put_values(values, kept(count), words, i)
+            put_values(&values, kept(count), words, i)
         }
     }
 }
@@ -184,10 +160,7 @@ pub fn put_words(e: Element, words: &mut [u32], at: usize) -> usize
     ensures { PutWordsPromise e words.old at result words.new }
 {
     let size = words_in(e);
-    if words.len() < at {
-        return at;
-    }
-    if words.len() - at < size {
+    if words.len() < at || words.len() - at < size {
         return at;
     }
     put_all(e, words, at)

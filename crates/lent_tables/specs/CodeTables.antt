@@ -1,14 +1,11 @@
 -- Parts of the code: the tables that a reader of whole texts is lent, made once a call, and what is found in one, by the table's entries
 -- alone.
 -- Assumes nothing.
-use Rattle.std.specs.Prelude.{ℕ, ◌+◌, ◌-◌, ◌≡◌, Bool, true, List, map, eqb, ltb, get_or}
-use Rattle.sorts.specs.declared.Found.TheVariants.{Char}
+use Rattle.std.specs.Prelude.{ℕ, ◌+◌, ◌-◌, ◌≡◌, Bool, true, List, map, eqb, ltb, get_or, Some, Option, None}
 use Rattle.run.specs.Choice.{pick}
 use Rattle.sorts.specs.declared.Form.{Form}
 use Rattle.sorts.specs.declared.Sort.{Sort}
 use Rattle.sorts.specs.declared.Sort.TheVariants.{Graphic, Mark, Underline, Shift, Control, SequenceStart, Refused}
-use Rattle.sorts.specs.declared.Octet.{Octet}
-use Rattle.sorts.specs.declared.Octet.TheVariants.{Is, Absent}
 use Rattle.sorts.specs.Cells.{octet_in}
 use Rattle.sorts.specs.Forms.{alphabet_of}
 use Rattle.sorts.specs.Tables.{consecutive}
@@ -26,9 +23,9 @@ neither = no_character + 13
 
 -- whether o is the octet that is written for a character, where the form names one: "Form 3 writes the number sign A6 and the currency
 -- sign A8."
-abbrev pub is_written : Octet → ℕ → Bool
-is_written (Is w) o = eqb o w
-is_written Absent o = true
+abbrev pub is_written : Option ℕ → ℕ → Bool
+is_written (Some w) o = eqb o w
+is_written None o = true
 
 -- what an octet o of the form f is, by its sort: a spacing character where o is written for it, and so canonical; a mark is its row,
 -- counted from there
@@ -57,4 +54,4 @@ paired_in table code follower = pick (ltb code no_character) 0 (square_in table 
 pub record ListedPair (f : Form) (o l c : ℕ) : Type 0 where
   pub mark : ℕ
   pub sorts : sort_in f o ≡ Mark mark
-  pub square : square_of mark l ≡ Char c
+  pub square : square_of mark l ≡ Some c

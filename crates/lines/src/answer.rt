@@ -1,7 +1,6 @@
-// Answers, and answers as text. A function that puts does so at a place of a lent text, where there is room, and answers the place
-// after it.
-pub use run::put;
+// Answers, and answers as text: each type is printed as the lines of the vectors have it.
 use run::{Answer, ReadAnswer};
+use std::fmt;
 
 // The answer to a vector that the program has no room for.
 pub fn unasked() -> Answer {
@@ -15,103 +14,134 @@ pub fn unasked() -> Answer {
 
 // How many entries are written: none by a refusal.
 pub fn written(answer: Answer) -> usize {
-    if answer.number == 0 {
-        return answer.count;
-    }
-    0
-}
-
-// The last hexadecimal digit of the number.
-pub fn digit(number: u32) -> u8 {
-    let value = (number % 16) as u8;
-    if value < 10 {
-        b'0' + value
-    } else {
-        b'A' - 10 + value
-    }
-}
-
-pub fn put_octet(out: &mut [u8], at: usize, octet: u8) -> usize {
-    let n = octet as u32;
-    let next = put(out, at, digit(n / 0x10));
-    put(out, next, digit(n))
-}
-
-fn put_four(out: &mut [u8], at: usize, n: u32) -> usize {
-    let next = put_octet(out, at, (n / 0x100 % 0x100) as u8);
-    put_octet(out, next, (n % 0x100) as u8)
-}
-
-fn put_eight(out: &mut [u8], at: usize, n: u32) -> usize {
-    let next = put_four(out, at, n / 0x10000);
-    put_four(out, next, n)
+    if answer.number == 0 { answer.count } else { 0 }
 }
 
 // In four digits, or in eight where four do not hold it.
-pub fn put_word(out: &mut [u8], at: usize, word: u32) -> usize {
-    if word < 0x10000 {
-        return put_four(out, at, word);
+#[derive(Clone, Copy)]
+pub struct Word(pub u32);
+
+impl fmt::Display for Word {
+    fn fmt<W: fmt::Write>(&self, f: &mut fmt::Formatter<W>) -> fmt::Result {
+        let word = self.0;
+        if word < 0x10000 {
+            write!(f, "{word:04X}")
+        } else {
+            write!(f, "{word:08X}")
+        }
     }
-    put_eight(out, at, word)
 }
 
 // In two digits, or in four where two do not hold it, or in sixteen.
-pub fn put_place(out: &mut [u8], at: usize, place: usize) -> usize {
-    if place < 0x100 {
-        return put_octet(out, at, place as u8);
+#[derive(Clone, Copy)]
+pub struct Place(pub usize);
+
+impl fmt::Display for Place {
+    fn fmt<W: fmt::Write>(&self, f: &mut fmt::Formatter<W>) -> fmt::Result {
+        let place = self.0;
+        match place {
+            0..=0xFF => write!(f, "{place:02X}"),
+            0x100..=0xFFFF => write!(f, "{place:04X}"),
+            _ => write!(f, "{place:016X}"),
+        }
     }
-    if place < 0x10000 {
-        return put_four(out, at, place as u32);
-    }
-    let next = put_eight(out, at, (place / 0x100000000) as u32);
-    put_eight(out, next, (place % 0x100000000) as u32)
 }
 
 // In two decimal digits, or `**` where two do not hold it.
-pub fn put_number(out: &mut [u8], at: usize, number: usize) -> usize {
-    if 100 <= number {
-        let next = put(out, at, b'*');
-        return put(out, next, b'*');
-    }
-    let next = put(out, at, digit((number / 10) as u32));
-    put(out, next, digit((number % 10) as u32))
-}
+#[derive(Clone, Copy)]
+pub struct Number(pub usize);
 
-pub fn put_after_space(out: &mut [u8], at: usize, place: usize) -> usize {
-    let next = put(out, at, b' ');
-    put_place(out, next, place)
+impl fmt::Display for Number {
+    fn fmt<W: fmt::Write>(&self, f: &mut fmt::Formatter<W>) -> fmt::Result {
+        let number = self.0;
+        if 100 <= number {
+            write!(f, "**")
+        } else {
+            write!(f, "{number:02}")
+        }
+    }
 }
 
 // The four numbers.
-pub fn put_numbers(out: &mut [u8], at: usize, answer: Answer) -> usize {
-    let first = put_number(out, at, answer.number);
-    let second = put_after_space(out, first, answer.element);
-    let third = put_after_space(out, second, answer.place);
-    put_after_space(out, third, answer.count)
-}
+#[derive(Clone, Copy)]
+pub struct Numbers(pub Answer);
 
-// The four numbers, and a comma.
-pub fn put_answer(out: &mut [u8], answer: Answer) -> usize {
-    let next = put_numbers(out, 0, answer);
-    put(out, next, b',')
+impl fmt::Display for Numbers {
+    fn fmt<W: fmt::Write>(&self, f: &mut fmt::Formatter<W>) -> fmt::Result {
+        let Answer {
+            number,
+            element,
+            place,
+            count,
+        } = self.0;
+        write!(f, "{} {} ", Number(number), Place(element))?;
+        write!(f, "{} {}", Place(place), Place(count))
+    }
 }
 
 // The five numbers of a reading or a conversion.
-pub fn put_reading(out: &mut [u8], at: usize, reading: ReadAnswer) -> usize {
-    let next = put_numbers(out, at, reading.answer);
-    put_after_space(out, next, reading.respelled)
-}
+#[derive(Clone, Copy)]
+pub struct Reading(pub ReadAnswer);
 
-// The five numbers, and a comma.
-pub fn put_read_answer(out: &mut [u8], reading: ReadAnswer) -> usize {
-    let next = put_reading(out, 0, reading);
-    put(out, next, b',')
+impl fmt::Display for Reading {
+    fn fmt<W: fmt::Write>(&self, f: &mut fmt::Formatter<W>) -> fmt::Result {
+        let ReadAnswer { answer, respelled } = self.0;
+        write!(f, "{} {}", Numbers(answer), Place(respelled))
+    }
 }
 
 // A refusal of one element: its number, place and count.
-pub fn put_refusal(out: &mut [u8], number: usize, place: usize, count: usize) -> usize {
-    let first = put(out, 0, b'!');
-    let second = put_number(out, first, number);
-    let third = put_after_space(out, second, place);
-    put_after_space(out, third, count)
+#[derive(Clone, Copy)]
+pub struct Refusal {
+    pub number: usize,
+    pub place: usize,
+    pub count: usize,
+}
+
+impl fmt::Display for Refusal {
+    fn fmt<W: fmt::Write>(&self, f: &mut fmt::Formatter<W>) -> fmt::Result {
+        let Refusal {
+            number,
+            place,
+            count,
+        } = *self;
+        write!(f, "!{} {} {}", Number(number), Place(place), Place(count))
+    }
+}
+
+// 00, or 01 where the element was not canonical.
+#[derive(Clone, Copy)]
+pub struct Canonical(pub bool);
+
+impl fmt::Display for Canonical {
+    fn fmt<W: fmt::Write>(&self, f: &mut fmt::Formatter<W>) -> fmt::Result {
+        write!(f, "{}", if self.0 { "00" } else { "01" })
+    }
+}
+
+// The octets as `C265`.
+#[derive(Clone, Copy)]
+pub struct Octets<'a>(pub &'a [u8]);
+
+impl fmt::Display for Octets<'_> {
+    fn fmt<W: fmt::Write>(&self, f: &mut fmt::Formatter<W>) -> fmt::Result {
+        for octet in self.0 {
+            write!(f, "{octet:02X}")?;
+        }
+        Ok(())
+    }
+}
+
+// The words as `04006D01 0004`.
+#[derive(Clone, Copy)]
+pub struct Words<'a>(pub &'a [u32]);
+
+impl fmt::Display for Words<'_> {
+    fn fmt<W: fmt::Write>(&self, f: &mut fmt::Formatter<W>) -> fmt::Result {
+        for (k, word) in self.0.iter().enumerate() {
+            let before = if k == 0 { "" } else { " " };
+            write!(f, "{before}{}", Word(*word))?;
+        }
+        Ok(())
+    }
 }

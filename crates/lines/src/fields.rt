@@ -1,129 +1,125 @@
-// The fields of a line, with commas between, and the hexadecimal digits in them.
-ghost use Rattle.std.specs.Prelude.{◌-◌, ◌<◌, ◌≤◌, length};
-ghost use Rattle.io.specs.Counts.{IsPrefixLen};
+// The parts of a text, the fields of a line among them, and the hexadecimal digits in them.
+ghost use Rattle.std.specs.Prelude.{◌≡◌, ◌<◌, ◌≤◌, ◌^◌, length, vec_len, IfOk, IfSome};
+ghost use Rattle.std.specs.Iterator.{at_most};
 
-// The place of the first `wanted` from `at` on, or the end of the text.
-fn find(text: &[u8], at: usize, wanted: u8) -> usize
-    requires { at ≤ length text.now }
-    ensures from { at ≤ result }
-    ensures within { result ≤ length text.now }
+use std::alloc::{AllocError, Global};
+
+// The parts of a text, one after another: each goes up to the next `end`, or to the end of the text.
+#[derive(Clone, Copy)]
+pub struct Parts<'a> {
+    pub rest: &'a [u8],
+    pub end: u8,
+}
+
+pub fn split(text: &[u8], end: u8) -> Parts<'_>
+    ensures of { result.rest.now ≡ text.now }
+    ensures up_to { result.end ≡ end }
 {
-    let mut i = at;
-    while i < text.len() {
-        if text[i] == wanted {
-            return i;
+    Parts { rest: text, end }
+}
+
+impl<'a> Iterator for Parts<'a> {
+    type Item = &'a [u8];
+
+    // What it gives, and what is left, is no longer than what was left before.
+    ghost next_gives = { λ s part t. (length t.rest.now ≤ length s.rest.now) × IfSome part (λ x. length x.now ≤ length s.rest.now) };
+
+    ghost remaining = { λ s. at_most (length s.rest.now) };
+
+    fn next(&mut self) -> Option<&'a [u8]> {
+        let end = self.end;
+        let text = self.rest;
+        if text.is_empty() {
+            return None;
         }
-        i += 1;
+        let Some(at) = text.iter().position(|octet| *octet == end) else {
+            self.rest = &[];
+            return Some(text);
+        };
+        self.rest = &text[at + 1..];
+        Some(&text[..at])
     }
-    i
 }
 
-// What stands from `at` on, up to the next `end` or the end of the text. Past the end of the text nothing does.
-pub fn part(text: &[u8], at: usize, end: u8) -> &[u8]
-    ensures { length result.now ≤ length text.now - at }
+// The parts that are left after the first `k`.
+fn after(text: &[u8], end: u8, k: usize) -> Parts<'_>
+    ensures { length result.rest.now ≤ length text.now }
 {
-    let length = text.len();
-    if length <= at {
-        return &text[length..];
+    let mut parts = split(text, end);
+    for _ in 0..k {
+        parts.next();
     }
-    let stop = find(text, at, end);
-    &text[at..stop]
+    parts
 }
 
-// The place after the next comma, or the end of the line.
-fn after_comma(line: &[u8], at: usize) -> usize
-    requires { at ≤ length line.now }
-    ensures { result ≤ length line.now }
+// What stands after the first `k` commas. Past the end of the line nothing does.
+pub fn rest(line: &[u8], k: usize) -> &[u8]
+    ensures { length result.now ≤ length line.now }
 {
-    let comma = find(line, at, b',');
-    if comma < line.len() {
-        return comma + 1;
-    }
-    comma
+    after(line, b',', k).rest
 }
 
-// What stands after the first `k` commas.
-pub fn rest(line: &[u8], k: usize) -> &[u8] {
-    let mut at = 0;
-    let mut i = 0;
-    while i < k {
-        at = after_comma(line, at);
-        i += 1;
-    }
-    &line[at..]
+// What stands between the first `k` ends and the next one. Past the last there is nothing.
+pub fn part(text: &[u8], end: u8, k: usize) -> &[u8]
+    ensures { length result.now ≤ length text.now }
+{
+    after(text, end, k).next().unwrap_or_default()
 }
 
-// What stands between the first `k` commas and the next one.
-pub fn field(line: &[u8], k: usize) -> &[u8] {
-    part(rest(line, k), 0, b',')
+pub fn field(line: &[u8], k: usize) -> &[u8]
+    ensures { length result.now ≤ length line.now }
+{
+    part(line, b',', k)
 }
 
+// No other digit counts: small letters stand for 0 too.
 fn value_of(digit: u8) -> u32
     ensures { result < 16 }
 {
     match digit {
-        b'0'..=b'9' => (digit - b'0') as u32,
-        b'A'..=b'F' => (digit - b'A' + 10) as u32,
+        b'0'..=b'9' => u32::from(digit - b'0'),
+        b'A'..=b'F' => u32::from(digit - b'A' + 10),
         _ => 0,
     }
 }
 
-// The last eight digits count.
-fn with_digit(n: u32, digit: u8) -> u32 {
-    n % 0x10000000 * 16 + value_of(digit)
-}
-
-// The number that the digits give.
-pub fn number_in(text: &[u8]) -> u32 {
+// The number that the digits give. The last eight count.
+pub fn number_in(text: &[u8]) -> u32
+    ensures { result < 16 ^ length text.now }
+{
     let mut n = 0;
-    let mut i = 0;
-    while i < text.len() {
-        n = with_digit(n, text[i]);
-        i += 1;
+    for digit in text {
+        n = n << 4 | value_of(*digit);
     }
     n
 }
 
-// The octet that two digits give, from `at` on; 0 where there are none.
-fn octet_at(text: &[u8], at: usize) -> u8 {
-    if text.len() < 2 {
-        return 0;
-    }
-    if text.len() - 2 < at {
-        return 0;
-    }
-    (16 * value_of(text[at]) + value_of(text[at + 1])) as u8
+pub fn number_at(line: &[u8], k: usize) -> u32
+    ensures { length line.now ≡ 0 → result ≡ 0 }
+{
+    number_in(field(line, k))
 }
 
-// Puts the octets that are written as `C265`, and answers how many there are, as far as there is room.
-pub fn octets_in(text: &[u8], out: &mut [u8]) -> usize
-    ensures { IsPrefixLen result out.new }
+pub fn size_at(line: &[u8], k: usize) -> usize
+    ensures none { length line.now ≡ 0 → result ≡ 0 }
+    ensures word { result < 2 ^ 32 }
 {
-    let mut i = 0;
-    while i < text.len() / 2 {
-        if out.len() <= i {
-            return i;
-        }
-        out[i] = octet_at(text, 2 * i);
-        i += 1;
-    }
-    i
+    number_at(line, k) as usize
 }
 
-// Puts the words that are written as `04006D01 0004`, and answers how many there are, as far as there is room.
-pub fn words_in(text: &[u8], out: &mut [u32]) -> usize
-    ensures { IsPrefixLen result out.new }
+// The octets that are written as `C265`, at most so many.
+pub fn octets_in(alloc: Global, text: &[u8], most: usize) -> Result<Vec<u8>, AllocError>
+    ensures { IfOk result (λ v. vec_len v ≤ most) }
 {
-    let mut n = 0;
-    let mut at = 0;
-    while at < text.len() {
-        if out.len() <= n {
-            return n;
-        }
-        let word = part(text, at, b' ');
-        out[n] = number_in(word);
-        at += word.len() + 1;
-        n += 1;
-    }
-    n
+    text.chunks_exact(2)
+        .take(most)
+        .map(|pair| (number_in(pair) % 0x100) as u8)
+        .collect(alloc)
+}
+
+// The words that are written as `04006D01 0004`, at most so many.
+pub fn words_in(alloc: Global, text: &[u8], most: usize) -> Result<Vec<u32>, AllocError>
+    ensures { IfOk result (λ v. vec_len v ≤ most) }
+{
+    split(text, b' ').take(most).map(number_in).collect(alloc)
 }

@@ -1,105 +1,87 @@
 // The lent rooms: what they are filled with before a call, and what stands in them after it.
-use crate::answer::{put, put_octet, put_word};
+ghost use Rattle.std.specs.Prelude.{◌≡◌, ◌≤◌, ◌+◌, ◌%◌, ℕ, length, slice_get, true, vec_len, IfOk, IfSome, IsTrue};
 
-// The octet at a place before a call: 80 to 8A, which no form has.
-fn octet_before(i: usize) -> u8 {
-    0x80 + (i % 11) as u8
+use crate::answer::{Octets, Words};
+use std::alloc::{AllocError, Global};
+use std::fmt;
+
+// What a room has: octets or words.
+pub trait Entry: Copy + PartialEq {
+    // What `before` gives.
+    ghost stands: { ℕ → Self };
+
+    // What stands at a place before a call: nothing that a call puts.
+    fn before(place: usize) -> Self
+        ensures { result ≡ stands place };
+
+    // The entries as text.
+    fn list<W: fmt::Write>(entries: &[Self], f: &mut fmt::Formatter<W>) -> fmt::Result;
 }
 
-// The word at a place before a call: in no element, and another at each place.
-fn word_before(i: usize) -> u32 {
-    0xF0000000 + (i % 0x10000) as u32
-}
+// 80 to 8A, which no form has.
+impl Entry for u8 {
+    ghost stands = { λ place. 0x80 + place % 11 };
 
-pub fn fill_octets(room: &mut [u8]) {
-    let mut i = 0;
-    while i < room.len() {
-        room[i] = octet_before(i);
-        i += 1;
+    fn before(place: usize) -> u8 {
+        0x80 + (place % 11) as u8
+    }
+
+    fn list<W: fmt::Write>(entries: &[u8], f: &mut fmt::Formatter<W>) -> fmt::Result {
+        write!(f, "{}", Octets(entries))
     }
 }
 
-pub fn fill_words(room: &mut [u32]) {
-    let mut i = 0;
-    while i < room.len() {
-        room[i] = word_before(i);
-        i += 1;
+// In no element, and another at each place.
+impl Entry for u32 {
+    ghost stands = { λ place. 0xF0000000 + place % 0x10000 };
+
+    fn before(place: usize) -> u32 {
+        0xF0000000 + (place % 0x10000) as u32
+    }
+
+    fn list<W: fmt::Write>(entries: &[u32], f: &mut fmt::Formatter<W>) -> fmt::Result {
+        write!(f, "{}", Words(entries))
     }
 }
 
-// Whether the octets from `from` on are those from before the call.
-pub fn keeps_octets(room: &[u8], from: usize) -> bool {
-    let mut i = from;
-    while i < room.len() {
-        if room[i] != octet_before(i) {
-            return false;
+pub fn room<E: Entry>(alloc: Global, size: usize) -> Result<Vec<E>, AllocError>
+    ensures { IfOk result (λ v. vec_len v ≡ size) }
+{
+    let mut room = Vec::with_capacity(alloc, size)?;
+    for place in 0..size {
+        room.push(E::before(place))?;
+    }
+    Ok(room)
+}
+
+// Whether the entries from `from` on are those from before the call.
+pub fn keeps<E: Entry>(room: &[E], from: usize) -> bool
+    ensures past_end { length room.now ≤ from → IsTrue result }
+    ensures kept { IsTrue result → ((k : ℕ) → IfSome (slice_get room.now (from + k)) (λ e. E.eq e (E.stands (from + k)) ≡ true)) }
+{
+    room.iter()
+        .enumerate()
+        .skip(from)
+        .all(|(place, entry)| *entry == E::before(place))
+}
+
+// The first `count` entries; then `?` where there are fewer, or where one after them is not as it was before the call.
+#[derive(Clone, Copy)]
+pub struct Put<'a, E> {
+    pub room: &'a [E],
+    pub count: usize,
+}
+
+impl<E: Entry> fmt::Display for Put<'_, E> {
+    fn fmt<W: fmt::Write>(&self, f: &mut fmt::Formatter<W>) -> fmt::Result {
+        let room = self.room;
+        let Some(entries) = room.get(..self.count) else {
+            return write!(f, "?");
+        };
+        E::list(entries, f)?;
+        if !keeps(room, self.count) {
+            write!(f, "?")?;
         }
-        i += 1;
+        Ok(())
     }
-    true
-}
-
-// Whether the words from `from` on are those from before the call.
-pub fn keeps_words(room: &[u32], from: usize) -> bool {
-    let mut i = from;
-    while i < room.len() {
-        if room[i] != word_before(i) {
-            return false;
-        }
-        i += 1;
-    }
-    true
-}
-
-fn put_all_octets(out: &mut [u8], at: usize, octets: &[u8]) -> usize {
-    let mut next = at;
-    let mut i = 0;
-    while i < octets.len() {
-        next = put_octet(out, next, octets[i]);
-        i += 1;
-    }
-    next
-}
-
-// The word, with a space before it if it is not the first.
-fn put_further(out: &mut [u8], at: usize, k: usize, word: u32) -> usize {
-    if k == 0 {
-        return put_word(out, at, word);
-    }
-    let next = put(out, at, b' ');
-    put_word(out, next, word)
-}
-
-fn put_all_words(out: &mut [u8], at: usize, words: &[u32]) -> usize {
-    let mut next = at;
-    let mut i = 0;
-    while i < words.len() {
-        next = put_further(out, next, i, words[i]);
-        i += 1;
-    }
-    next
-}
-
-// The first `n` octets; then `?` where there are fewer, or where one after them is not as it was before the call.
-pub fn put_octets(out: &mut [u8], at: usize, room: &[u8], n: usize) -> usize {
-    if room.len() < n {
-        return put(out, at, b'?');
-    }
-    let next = put_all_octets(out, at, &room[0..n]);
-    if keeps_octets(room, n) {
-        return next;
-    }
-    put(out, next, b'?')
-}
-
-// The first `n` words; then `?` where there are fewer, or where one after them is not as it was before the call.
-pub fn put_words(out: &mut [u8], at: usize, room: &[u32], n: usize) -> usize {
-    if room.len() < n {
-        return put(out, at, b'?');
-    }
-    let next = put_all_words(out, at, &room[0..n]);
-    if keeps_words(room, n) {
-        return next;
-    }
-    put(out, next, b'?')
 }

@@ -5,6 +5,35 @@
 use std::rt::Files;
 use std::{fs, io};
 
+const ACCEPTED: [&str; 4] = ["example", "no-pages", "256-empty-pages", "three-pages"];
+
+// A fault in a page.
+const PAGES_REFUSED: [&str; 9] = [
+    "refused-1",
+    "refused-2",
+    "refused-3",
+    "refused-4",
+    "refused-5",
+    "refused-6",
+    "refused-7",
+    "refused-8",
+    "refused-on-page-2",
+];
+
+// A fault in the header or the table.
+const CASES_REFUSED: [&str; 7] = [
+    "refused-11",
+    "refused-13-mark",
+    "refused-13-short",
+    "refused-13-empty",
+    "refused-14",
+    "refused-15-size",
+    "refused-15-pages",
+];
+
+// The longest input, and one octet more.
+const LONGEST: [&str; 2] = ["octets-65536", "octets-65537"];
+
 // A file that cannot be opened is said to standard error, and the next one comes.
 fn list_file<R: Files + Print + Eprint>(rt: &R, name: &str) -> io::Result<()> {
     println!(rt; "{name}")?;
@@ -14,41 +43,16 @@ fn list_file<R: Files + Print + Eprint>(rt: &R, name: &str) -> io::Result<()> {
     }
 }
 
-fn list_accepted<R: Files + Print + Eprint>(rt: &R) -> io::Result<()> {
-    list_file(rt, "example")?;
-    list_file(rt, "no-pages")?;
-    list_file(rt, "256-empty-pages")?;
-    list_file(rt, "three-pages")
-}
-
-// A fault in a page.
-fn list_pages_refused<R: Files + Print + Eprint>(rt: &R) -> io::Result<()> {
-    list_file(rt, "refused-1")?;
-    list_file(rt, "refused-2")?;
-    list_file(rt, "refused-3")?;
-    list_file(rt, "refused-4")?;
-    list_file(rt, "refused-5")?;
-    list_file(rt, "refused-6")?;
-    list_file(rt, "refused-7")?;
-    list_file(rt, "refused-8")?;
-    list_file(rt, "refused-on-page-2")
-}
-
-// A fault in the header or the table.
-fn list_cases_refused<R: Files + Print + Eprint>(rt: &R) -> io::Result<()> {
-    list_file(rt, "refused-11")?;
-    list_file(rt, "refused-13-mark")?;
-    list_file(rt, "refused-13-short")?;
-    list_file(rt, "refused-13-empty")?;
-    list_file(rt, "refused-14")?;
-    list_file(rt, "refused-15-size")?;
-    list_file(rt, "refused-15-pages")
+fn list_files<R: Files + Print + Eprint>(rt: &R, names: &[&str]) -> io::Result<()> {
+    for name in names {
+        list_file(rt, name)?;
+    }
+    Ok(())
 }
 
 fn main(rt: HostRuntime) -> io::Result<()> {
-    list_accepted(&rt)?;
-    list_pages_refused(&rt)?;
-    list_cases_refused(&rt)?;
-    list_file(&rt, "octets-65536")?;
-    list_file(&rt, "octets-65537")
+    list_files(&rt, &ACCEPTED)?;
+    list_files(&rt, &PAGES_REFUSED)?;
+    list_files(&rt, &CASES_REFUSED)?;
+    list_files(&rt, &LONGEST)
 }

@@ -1,71 +1,58 @@
--- The octets that wait and then the piece, copied one after another: at each place of both stands one of either, and each turn puts one.
+-- The octets that wait and then the piece, copied one after the other.
 -- Assumes nothing.
-use Prim.Native.Nat.{ℕ, ◌+◌, ◌-◌, ◌≤◌, ◌<◌}
-use mathlib.Core.Path.{◌≡◌, refl, sym, ap, ◌∙◌}
-use mathlib.Core.List.{List, [], ◌∷◌, ◌++◌}
-use native.Mathlib.Numerals.{add-one}
-use native.Mathlib.Nat.{add-zero}
+use Prim.Native.Nat.{ℕ, zero, suc, ◌+◌, ◌-◌}
+use mathlib.Core.Path.{◌≡◌, sym, ap, ap₂, ◌∙◌}
+use mathlib.Core.List.{List, [], ◌∷◌, ◌++◌, append_assoc, append-nil}
 use native.Mathlib.Omega.{arith}
-use lib.ListN.{length, take, drop, set, get_or, length-drop, get_or-append}
-use lib.Seq.{take-suc, take_all, get_or-drop, get_or-append-add}
-use Rattle.run.specs.Put.{Put}
-use Rattle.run.proofs.Puts.{put_none, put_length, put_both, put_as, put_over}
+use lib.ListN.{length, take, drop, length-append, length-drop, length-take, drop_of_length-le}
+use lib.Seq.{take-append_seam, drop-append_seam, drop-drop}
+use borrow.Rule.Slice.PartMut.{put_mid}
+use Rattle.run.proofs.Puts.{behind, behind_is}
 use Rattle.open_elements.specs.Steps.{Gathered}
 
--- ---- the octet at a place of both
+drop_both : (n : ℕ) (s t : List ℕ) → drop n (s ++ t) ≡ drop n s ++ drop (n - length s) t
+drop_both zero s t = let k : 0 ≡ 0 - length s = omega arith in ap (λ (i : ℕ). s ++ drop i t) k
+drop_both (suc n) [] t = let k : suc n ≡ suc n - 0 = omega arith in ap (λ (i : ℕ). drop i t) k
+drop_both (suc n) (o ∷ s) t =
+    let k : n - length s ≡ suc n - suc (length s) = omega arith in drop_both n s t ∙ ap (λ (i : ℕ). drop n s ++ drop i t) k
 
-module _ (waiting piece : List ℕ) (at : ℕ) where
-  pub waiting_octet : at < length waiting → get_or waiting at 0 ≡ get_or (waiting ++ piece) at 0
-  waiting_octet h = sym (get_or-append waiting piece 0 at h)
+take_both : (n : ℕ) (s t : List ℕ) → take n (s ++ t) ≡ take n s ++ take (n - length s) t
+take_both zero s t = let k : 0 ≡ 0 - length s = omega arith in ap (λ (i : ℕ). take i t) k
+take_both (suc n) [] t = let k : suc n ≡ suc n - 0 = omega arith in ap (λ (i : ℕ). take i t) k
+take_both (suc n) (o ∷ s) t =
+    let k : n - length s ≡ suc n - suc (length s) = omega arith in
+    ap (λ (l : List ℕ). o ∷ l) (take_both n s t ∙ ap (λ (i : ℕ). take n s ++ take i t) k)
 
-  pub piece_octet : length waiting ≤ at → get_or piece (at - length waiting) 0 ≡ get_or (waiting ++ piece) at 0
-  piece_octet h =
-      let e : length waiting + (at - length waiting) ≡ at = omega arith in
-      sym (ap (λ (n : ℕ). get_or (waiting ++ piece) n 0) (sym e) ∙ get_or-append-add waiting piece (at - length waiting) 0)
-
--- ---- the loop
-
--- behind i of the octets s from a place on: they stand in the buffer, and `at` is the next one's place
-pub record Gathers (s : List ℕ) (from : ℕ) (before : List ℕ) (i at : ℕ) (now : List ℕ) : Type 0 where
-  pub place : at ≡ from + i
-  pub inside : i ≤ length (drop from s)
-  pub room : i ≤ length before
-  pub put : Put before 0 (take i (drop from s)) now i
-
-module _ (s : List ℕ) (from : ℕ) (before : List ℕ) where
-  pub gather_start : Gathers s from before 0 from before
-  gather_start = record { place = sym (add-zero from); inside = omega arith; room = omega arith; put = put_none before 0 }
-
-  module _ {i at : ℕ} {now : List ℕ} (was : Gathers s from before i at now) where
-    pub gather_turn : {o : ℕ} {after : List ℕ} → i < length now → at < length s → o ≡ get_or s at 0 → after ≡ set now i o
-        → Gathers s from before (i + 1) (at + 1) after
-    gather_turn room h e q =
-        let more : i < length (drop from s) = omega (arith, was.place, length-drop from s) in
-        let next = e ∙ ap (λ (n : ℕ). get_or s n 0) was.place ∙ sym (get_or-drop from s i 0) in
-        record {
-          place = omega (arith, was.place);
-          inside = omega (arith, more);
-          room = omega (arith, put_length was.put);
-          put =
-              put_as (ap (λ (x : ℕ). take i (drop from s) ++ (x ∷ [])) next ∙ sym (rw (add-one, take-suc (drop from s) i 0)))
-              (put_both was.put (record { place = refl; holds = q }));
-        }
-
-    -- all that there is room for, or all that there are
-    gather_all : take (length before) (drop from s) ≡ take i (drop from s) → Gathered s from before i now
-    gather_all e =
-        let l : length (take i (drop from s)) ≡ i = omega (arith, was.put.place) in
-        record {
-          many = sym l ∙ ap length (sym e);
-          stand = put_over (put_as (sym e) was.put) (omega (arith, ap length e, l, was.room));
-        }
-
-    pub gather_full : length now ≤ i → Gathered s from before i now
-    gather_full full =
-        let e : length before ≡ i = omega (arith, was.room, put_length was.put) in
-        gather_all (ap (λ (n : ℕ). take n (drop from s)) e)
-
-    pub gather_end : length s ≤ at → Gathered s from before i now
-    gather_end end =
-        let l : length (drop from s) ≤ i = omega (arith, was.place, length-drop from s) in
-        gather_all (take_all (length before) (drop from s) (omega (arith, was.room)) ∙ sym (take_all i (drop from s) l))
+pub gathered_both : (s t : List ℕ) (from : ℕ) {into mid part : List ℕ} {n m : ℕ} → Gathered (drop from s) 0 into n mid
+    → Gathered (drop (from - length s) t) 0 (behind mid n) m part
+    → Gathered (s ++ t) from into (n + m) (put_mid n (length mid - n) mid part)
+gathered_both s t from {into} {mid} {part} {n} {m} one two =
+    let u : List ℕ = drop from s in
+    let v : List ℕ = drop (from - length s) t in
+    let room : ℕ = length into in
+    let size : n ≡ length (take room u) = one.many in
+    let front : take n mid ≡ take room u = ap₂ take one.many one.stand ∙ take-append_seam (take room u) (drop (length (take room u)) into) in
+    let rest : behind mid n ≡ drop n into =
+    behind_is mid n
+    ∙ ap₂ drop one.many one.stand
+    ∙ drop-append_seam (take room u) (drop (length (take room u)) into)
+    ∙ ap (λ (i : ℕ). drop i into) (sym size) in
+    let w : List ℕ = take (length (behind mid n)) v in
+    let left : length (behind mid n) ≡ room - length u =
+    ap length rest ∙ length-drop n into ∙ omega (arith, size, length-take room u) in
+    let both : take room (drop from (s ++ t)) ≡ take room u ++ w =
+    ap (take room) (drop_both from s t) ∙ take_both room u v ∙ ap (λ (i : ℕ). take room u ++ take i v) (sym left) in
+    let long : length (take room (drop from (s ++ t))) ≡ n + m =
+    ap length both ∙ length-append (take room u) w ∙ ap₂ ◌+◌ (sym size) (sym two.many) in
+    let none : drop (length mid - n) (drop n mid) ≡ [] =
+    drop_of_length-le (drop n mid) {i = length mid - n} (omega (arith, length-drop n mid)) in
+    let now : part ≡ w ++ drop m (drop n into) =
+    two.stand ∙ ap₂ (λ (i : ℕ) (l : List ℕ). w ++ drop i l) (sym two.many) rest in
+    record {
+      many = sym long;
+      stand =
+          ap₂ (λ (a b : List ℕ). a ++ (part ++ b)) front none
+          ∙ ap (λ (l : List ℕ). take room u ++ l) (append-nil part ∙ now)
+          ∙ sym (append_assoc (take room u) w (drop m (drop n into)))
+          ∙ ap₂ ◌++◌ (sym both) (drop-drop m n into ∙ ap (λ (i : ℕ). drop i into) (sym long));
+    }

@@ -15,7 +15,7 @@ use Rattle.run.specs.Choice.{pick}
 use Rattle.run.specs.Head.{Head, element, refused, none, Outcome, accepted, refusal, join}
 use Rattle.run.specs.Grammar.{Run, RunOf, done, more}
 use Rattle.run.specs.declared.Answer.{Answer}
-use Rattle.run.specs.Answers.{answer, bare, given, count_of}
+use Rattle.run.specs.Answers.{answer, given, count_of}
 use Rattle.run.specs.Put.{Put, what_fits}
 use Rattle.run.proofs.Outcomes as outcomes
 use Rattle.run.proofs.Before.{given_before}
@@ -350,18 +350,9 @@ on_alone f [] piece words e p =
 on_alone f (o ∷ waiting) piece words e p = absurd (omega (arith, e))
 
 -- an open element waits
-pub on_open : (f : Form) (waiting piece words : List ℕ) {m : Measured} {after : List ℕ} → is_open f waiting ≡ true
-    → FrontOf f (waiting ++ piece) words m after → ReadOnPromise f waiting piece words m after
-on_open f waiting piece words t p = (p.0 ∙ sym (simp t), p.1 ∙ sym (simp t))
-
 pub open_on : (f : Form) (waiting piece words : List ℕ) {m : Measured} {after : List ℕ} → is_open f waiting ≡ true
     → ReadOnPromise f waiting piece words m after → FrontOf f (waiting ++ piece) words m after
 open_on f waiting piece words t p = (p.0 ∙ simp t, p.1 ∙ simp t)
-
--- what waits is none
-pub on_none : (f : Form) (waiting piece words : List ℕ) {a : Answer} → is_open f waiting ≡ false → a ≡ bare 11
-    → ReadOnPromise f waiting piece words (record { answer = a; words = 0; respelled = 0 }) words
-on_none f waiting piece words t e = (ap (λ (x : Answer). record { answer = x; words = 0; respelled = 0 }) e ∙ sym (simp t), sym (simp t))
 
 -- what was gathered stands in the array
 pub gathered_size : {s : List ℕ} {from : ℕ} {into : List ℕ} {size : ℕ} {after : List ℕ}

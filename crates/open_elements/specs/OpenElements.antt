@@ -5,6 +5,7 @@ use Rattle.std.specs.Prelude.{ℕ, Bool, true, false, List, ◌++◌, eqb}
 use Rattle.std.proofs.lemmas.List.Edits.{sets}
 use Rattle.run.specs.Choice.{pick}
 use Rattle.run.specs.Head.{Head, element, refused, none}
+use Rattle.run.specs.declared.Answer.{Answer}
 use Rattle.run.specs.Answers.{bare}
 use Rattle.run.specs.Put.{what_fits}
 use Rattle.sorts.specs.declared.Form.{Form}
@@ -22,9 +23,13 @@ open_head none = true
 abbrev pub is_open : Form → List ℕ → Bool
 is_open f s = open_head (head_in f s)
 
+-- an answer where nothing was read
+abbrev pub nothing_read : Answer → Measured
+nothing_read a = record { answer = a; words = 0; respelled = 0 }
+
 -- what waits is no open element
 abbrev pub not_open : Measured
-not_open = record { answer = bare 11; words = 0; respelled = 0 }
+not_open = nothing_read (bare 11)
 
 -- those that wait and the piece, read as one text up to its end or its first fault
 abbrev pub read_on : Form → List ℕ → List ℕ → Measured

@@ -1,13 +1,13 @@
--- A struct of eight keeps eight values at most.
+-- A list of eight keeps eight values at most.
 -- Assumes nothing.
 use Prim.Native.Nat.{ℕ, ◌≤◌}
 use mathlib.Core.Path.{◌≡◌, refl}
 use mathlib.Core.List.{List, [], ◌∷◌}
 use native.Mathlib.Omega.{arith}
 use lib.ListN.{length, take}
-use Rattle.sequence_reading.specs.EightValues.{values_of, list_of}
+use Rattle.sequence_reading.specs.EightValues.{values_of}
 
-pub values_back : (vs : List ℕ) → length vs ≤ 8 → take (length vs) (list_of (values_of vs)) ≡ vs
+pub values_back : (vs : List ℕ) → length vs ≤ 8 → take (length vs) (values_of vs) ≡ vs
 values_back [] h = refl
 values_back (a ∷ []) h = refl
 values_back (a ∷ (b ∷ [])) h = refl

@@ -11,12 +11,13 @@ use Rattle.run.specs.Choice.{pick}
 use Rattle.run.specs.Head.{Head, element, refused, none}
 use Rattle.run.specs.Grammar.{Begins}
 use Rattle.run.proofs.Choices.{pick_case}
+use Rattle.std.proofs.Common.{Result, Ok, Err}
 use Rattle.sorts.specs.Forms.{CSI}
 use Rattle.sequence_reading.specs.declared.Kind.{Kind}
 use Rattle.sequence_reading.specs.declared.Kind.TheVariants.{Digit, Separator, Middle, Final, Other}
 use Rattle.sequence_reading.specs.declared.Scan.{Scan}
 use Rattle.sequence_reading.specs.declared.Next.{Next}
-use Rattle.sequence_reading.specs.declared.Next.TheVariants.{More, Value, Last, Bad}
+use Rattle.sequence_reading.specs.declared.Next.TheVariants.{More, Value, Last}
 use Rattle.sequence_reading.specs.Kinds.{kind_of}
 use Rattle.sequence_reading.specs.Grammar as grammar
 use Rattle.sequence_reading.specs.Grammar.{Sequence, Decimal, empty, digit, Parameters, single, joined, Intermediate, one, Small}
@@ -74,7 +75,7 @@ abbrev pub state : ℕ → ℕ → ℕ → ℕ → Scan
 state c k m t = record { current = c; closed = k; middle = m; taken = t }
 
 -- one octet, by its kind
-scan_as : (ws : List ℕ) (s : Scan) (b : ℕ) (rest : List ℕ) (k : Kind) (n : Next) → kind_of b ≡ k → kind_step k s ≡ n
+scan_as : (ws : List ℕ) (s : Scan) (b : ℕ) (rest : List ℕ) (k : Kind) (n : Result Next ℕ) → kind_of b ≡ k → kind_step k s ≡ n
     → scan ws s (b ∷ rest) ≡ after n ws s (λ vs t. scan vs t rest)
 unfolding scan
 scan_as ws s b rest k n e q = rw (step_as s b k e ∙ q)
@@ -140,19 +141,19 @@ arrive {s} {vs} {m} h t =
 
 -- what the grammar refuses, the state refuses
 
-step_not_allowed : {m : ℕ} {k : Kind} → NotAllowed m k → (s : Scan) → s.middle ≡ m → kind_step k s ≡ Bad 6
+step_not_allowed : {m : ℕ} {k : Kind} → NotAllowed m k → (s : Scan) → s.middle ≡ m → kind_step k s ≡ Err 6
 step_not_allowed no_kind s e = refl
 step_not_allowed (late_digit {m} {d} h) s e = digit_late s d (omega arith)
 step_not_allowed (late_separator h) s e = value_late s (omega arith)
 step_not_allowed (second_middle {m} {i} h) s e = middle_within s i ∙ is_late s _ (omega arith)
 
 step_passes : {vs : List ℕ} {k : Kind} → Passes vs k → (s : Scan) → s.middle ≡ 0 → s.current ≡ last_of vs → s.closed + 1 ≡ length vs
-    → kind_step k s ≡ Bad 7
+    → kind_step k s ≡ Err 7
 step_passes (passes_999 {vs} {d} h) s m c n = digit_passes s d (omega arith) ∙ not_late s _ m
 step_passes (ninth h) s m c n = value_passes s (omega arith) ∙ not_late s _ m
 
 step_fortieth : {m : ℕ} {vs : List ℕ} {k : Kind} → Goes m vs k → (s : Scan) → s.middle ≡ m → s.current ≡ last_of vs
-    → s.closed + 1 ≡ length vs → s.taken ≡ 39 → kind_step k s ≡ Bad 8
+    → s.closed + 1 ≡ length vs → s.taken ≡ 39 → kind_step k s ≡ Err 8
 step_fortieth (digit_goes {vs} {d} h) s m c n t =
     digit_within s d (s.current * 10 + d) refl (omega arith) ∙ not_late s _ m ∙ is_full s _ (omega arith)
 step_fortieth (separator_goes h) s m c n t = value_within s (omega arith) ∙ not_late s _ m ∙ is_full s _ (omega arith)
@@ -163,14 +164,14 @@ module _ {s vs : List ℕ} {m : ℕ} (h : Inside s m vs) where
   closed_count = sym (ap length (closed_last vs (some_value h.valued)) ∙ snoc_length (closed_of vs) (last_of vs))
 
   -- one octet more
-  arrive_at : (b : ℕ) (t : List ℕ) (n : Next) → kind_step (kind_of b) (state_of s m vs) ≡ n
+  arrive_at : (b : ℕ) (t : List ℕ) (n : Result Next ℕ) → kind_step (kind_of b) (state_of s m vs) ≡ n
       → sequence_head (s ++ (b ∷ t)) ≡ after n (closed_of vs) (state_of s m vs) (λ ws u. scan ws u t)
   arrive_at b t n e = arrive h (b ∷ t) ∙ scan_as (closed_of vs) (state_of s m vs) b t (kind_of b) n refl e
 
   arrive_final : (b f : ℕ) (t : List ℕ) → kind_of b ≡ Final f
       → sequence_head (s ++ (b ∷ t)) ≡ element (record { middle = m; last = f; values = vs }) (length s + 1)
   arrive_final b f t e =
-      arrive_at b t (Last f) (rw e)
+      arrive_at b t (Ok (Last f)) (rw e)
       ∙ rw (← closed_last vs (some_value h.valued))
 
 pub spelling_found : {p : List ℕ} {q : Sequence} → SpellsSequence p q → (t : List ℕ) → sequence_head (p ++ t) ≡ element q (length p)
@@ -180,9 +181,9 @@ spelling_found (sequence {s} {vs} {m} {f} b h e) t =
 pub refusal_found : {u : List ℕ} {r d : ℕ} → RefusesSequence u r d → sequence_head u ≡ refused r d
 unfolding scan
 refusal_found (ends {s} h) = sym (ap sequence_head (append-nil s)) ∙ arrive h []
-refusal_found (not_allowed {s} {vs} {m} b t h n) = arrive_at h b t (Bad 6) (step_not_allowed n (state_of s m vs) refl)
-refusal_found (passes {s} {vs} b t h n) = arrive_at h b t (Bad 7) (step_passes n (state_of s 0 vs) refl refl (closed_count h))
-refusal_found (fortieth {s} {vs} {m} b t h l n) = arrive_at h b t (Bad 8) (step_fortieth n (state_of s m vs) refl refl (closed_count h) l)
+refusal_found (not_allowed {s} {vs} {m} b t h n) = arrive_at h b t (Err 6) (step_not_allowed n (state_of s m vs) refl)
+refusal_found (passes {s} {vs} b t h n) = arrive_at h b t (Err 7) (step_passes n (state_of s 0 vs) refl refl (closed_count h))
+refusal_found (fortieth {s} {vs} {m} b t h l n) = arrive_at h b t (Err 8) (step_fortieth n (state_of s m vs) refl refl (closed_count h) l)
 
 -- ---- from the reader to the grammar
 
@@ -238,11 +239,11 @@ standing_start =
     }
 
 -- what an octet's outcome says: one octet more stands; or the octet is a final; or what begins so is refused, whatever follows
-abbrev pub Says : List ℕ → List ℕ → Scan → ℕ → Next → Type 0
-Says s ws a b (More t) = Standing (s ++ (b ∷ [])) ws t
-Says s ws a b (Value t) = Standing (s ++ (b ∷ [])) (ws ++ (a.current ∷ [])) t
-Says s ws a b (Last f) = kind_of b ≡ Final f
-Says s ws a b (Bad n) = (t : List ℕ) → RefusesSequence (s ++ (b ∷ t)) n (length s)
+abbrev pub Says : List ℕ → List ℕ → Scan → ℕ → Result Next ℕ → Type 0
+Says s ws a b (Ok (More t)) = Standing (s ++ (b ∷ [])) ws t
+Says s ws a b (Ok (Value t)) = Standing (s ++ (b ∷ [])) (ws ++ (a.current ∷ [])) t
+Says s ws a b (Ok (Last f)) = kind_of b ≡ Final f
+Says s ws a b (Err n) = (t : List ℕ) → RefusesSequence (s ++ (b ∷ t)) n (length s)
 
 module _ (s ws : List ℕ) (a : Scan) (b : ℕ) (h : Standing s ws a) where
   abbrev values : List ℕ
@@ -258,27 +259,27 @@ module _ (s ws : List ℕ) (a : Scan) (b : ℕ) (h : Standing s ws a) where
       ∙ ap (λ (l : List ℕ). CSI ∷ (h.inside.parameters ++ l)) (no_middle h.inside.at_most_one z)
       ∙ rw append-nil
 
-  says_6 : (k : Kind) → kind_of b ≡ k → NotAllowed a.middle k → Says s ws a b (Bad 6)
+  says_6 : (k : Kind) → kind_of b ≡ k → NotAllowed a.middle k → Says s ws a b (Err 6)
   says_6 k e n t = not_allowed b t h.inside (rw e n)
 
-  says_7 : (k : Kind) → kind_of b ≡ k → a.middle ≡ 0 → Passes values k → Says s ws a b (Bad 7)
+  says_7 : (k : Kind) → kind_of b ≡ k → a.middle ≡ 0 → Passes values k → Says s ws a b (Err 7)
   says_7 k e z n t = passes b t (bare z) (rw e n)
 
-  says_8 : (k : Kind) → kind_of b ≡ k → 39 ≤ a.taken → Goes a.middle values k → Says s ws a b (Bad 8)
+  says_8 : (k : Kind) → kind_of b ≡ k → 39 ≤ a.taken → Goes a.middle values k → Says s ws a b (Err 8)
   says_8 k e f n t = fortieth b t h.inside (omega (arith, h.taken, h.inside.short)) (rw e n)
 
   -- after an intermediate 6; at the 40th octet 8
-  unless_late_says : (k : Kind) (n : Next) → kind_of b ≡ k → (0 < a.middle → NotAllowed a.middle k) → (a.middle ≡ 0 → Says s ws a b n)
+  unless_late_says : (k : Kind) (n : Result Next ℕ) → kind_of b ≡ k → (0 < a.middle → NotAllowed a.middle k) → (a.middle ≡ 0 → Says s ws a b n)
       → Says s ws a b (unless_late a n)
   unless_late_says k n e late f =
-      pick_case (Says s ws a b) (eqb a.middle 0) n (Bad 6)
+      pick_case (Says s ws a b) (eqb a.middle 0) n (Err 6)
       (λ z. f (eqb-true a.middle 0 z))
       (λ z. let y : a.middle ≡ 0 → ⊥ = eqb-false a.middle 0 z in says_6 k e (late (omega arith)))
 
-  unless_full_says : (k : Kind) (n : Next) → kind_of b ≡ k → Goes a.middle values k → (a.taken < 39 → Says s ws a b n)
+  unless_full_says : (k : Kind) (n : Result Next ℕ) → kind_of b ≡ k → Goes a.middle values k → (a.taken < 39 → Says s ws a b n)
       → Says s ws a b (unless_full a n)
   unless_full_says k n e g f =
-      pick_case (Says s ws a b) (leb 39 a.taken) (Bad 8) n
+      pick_case (Says s ws a b) (leb 39 a.taken) (Err 8) n
       (λ z. says_8 k e (leb-true 39 a.taken z) g)
       (λ z. f (leb-false 39 a.taken z))
 
@@ -318,10 +319,10 @@ module _ (s ws : List ℕ) (a : Scan) (b : ℕ) (h : Standing s ws a) where
   unfolding digit_step
   digit_says d e =
       let v : ℕ = a.current * 10 + d in
-      let n : Next = More (record { current = v; closed = a.closed; middle = 0; taken = a.taken + 1 }) in
+      let n : Result Next ℕ = Ok (More (record { current = v; closed = a.closed; middle = 0; taken = a.taken + 1 })) in
       let l : last_of values ≡ a.current = last_snoc ws a.current in
-      unless_late_says (Digit d) (pick (leb v 999) (unless_full a n) (Bad 7)) e late_digit
-      (λ z. pick_case (Says s ws a b) (leb v 999) (unless_full a n) (Bad 7)
+      unless_late_says (Digit d) (pick (leb v 999) (unless_full a n) (Err 7)) e late_digit
+      (λ z. pick_case (Says s ws a b) (leb v 999) (unless_full a n) (Err 7)
       (λ t.
       let h' : v ≤ 999 = leb-true v 999 t in
       unless_full_says (Digit d) n e (rw z (digit_goes {vs = values} {d = d} (omega arith)))
@@ -339,10 +340,10 @@ module _ (s ws : List ℕ) (a : Scan) (b : ℕ) (h : Standing s ws a) where
   value_says : kind_of b ≡ Separator → Says s ws a b (value_step a)
   unfolding value_step
   value_says e =
-      let n : Next = Value (record { current = 0; closed = a.closed + 1; middle = 0; taken = a.taken + 1 }) in
+      let n : Result Next ℕ = Ok (Value (record { current = 0; closed = a.closed + 1; middle = 0; taken = a.taken + 1 })) in
       let l : length values ≡ a.closed + 1 = snoc_length ws a.current ∙ ap (λ (i : ℕ). i + 1) (sym h.closed) in
-      unless_late_says Separator (pick (leb 7 a.closed) (Bad 7) (unless_full a n)) e late_separator
-      (λ z. pick_case (Says s ws a b) (leb 7 a.closed) (Bad 7) (unless_full a n)
+      unless_late_says Separator (pick (leb 7 a.closed) (Err 7) (unless_full a n)) e late_separator
+      (λ z. pick_case (Says s ws a b) (leb 7 a.closed) (Err 7) (unless_full a n)
       (λ t. let h' : 7 ≤ a.closed = leb-true 7 a.closed t in says_7 Separator e z (ninth (omega arith)))
       (λ t.
       let h' : a.closed < 7 = leb-false 7 a.closed t in
@@ -360,7 +361,7 @@ module _ (s ws : List ℕ) (a : Scan) (b : ℕ) (h : Standing s ws a) where
   middle_step_says : (i : ℕ) → kind_of b ≡ Middle i → Says s ws a b (middle_step a i)
   unfolding middle_step
   middle_step_says i e =
-      let n : Next = More (record { current = a.current; closed = a.closed; middle = i; taken = a.taken + 1 }) in
+      let n : Result Next ℕ = Ok (More (record { current = a.current; closed = a.closed; middle = i; taken = a.taken + 1 })) in
       unless_late_says (Middle i) (unless_full a n) e second_middle
       (λ z. unless_full_says (Middle i) n e (rw z middle_goes)
       (λ r. record { inside = inside_middle z r i e; closed = h.closed; taken = one_more z r }))
@@ -384,11 +385,11 @@ Tells u (refused r d) = RefusesSequence u r d
 Tells u none = ⊥
 
 after_tells : (s ws : List ℕ) (a : Scan) (b : ℕ) (t : List ℕ) → Standing s ws a → (rest : List ℕ → Scan → Head Sequence)
-    → ((vs : List ℕ) (c : Scan) → Standing (s ++ (b ∷ [])) vs c → Tells (s ++ (b ∷ t)) (rest vs c)) → (n : Next) → Says s ws a b n
+    → ((vs : List ℕ) (c : Scan) → Standing (s ++ (b ∷ [])) vs c → Tells (s ++ (b ∷ t)) (rest vs c)) → (n : Result Next ℕ) → Says s ws a b n
     → Tells (s ++ (b ∷ t)) (after n ws a rest)
-after_tells s ws a b t h rest ih (More c) n = ih ws c n
-after_tells s ws a b t h rest ih (Value c) n = ih (ws ++ (a.current ∷ [])) c n
-after_tells s ws a b t h rest ih (Last f) n =
+after_tells s ws a b t h rest ih (Ok (More c)) n = ih ws c n
+after_tells s ws a b t h rest ih (Ok (Value c)) n = ih (ws ++ (a.current ∷ [])) c n
+after_tells s ws a b t h rest ih (Ok (Last f)) n =
     record {
       front = s ++ (b ∷ []);
       rest = t;
@@ -396,7 +397,7 @@ after_tells s ws a b t h rest ih (Last f) n =
       spells = sequence b h.inside n;
       size = omega (arith, h.taken, snoc_length s b);
     }
-after_tells s ws a b t h rest ih (Bad r) n = rw h.taken (n t)
+after_tells s ws a b t h rest ih (Err r) n = rw h.taken (n t)
 
 pub view : (t s ws : List ℕ) (a : Scan) → Standing s ws a → Tells (s ++ t) (scan ws a t)
 unfolding scan

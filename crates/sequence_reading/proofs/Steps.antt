@@ -5,6 +5,7 @@ use mathlib.Core.Path.{◌≡◌, refl}
 use native.Mathlib.Omega.{arith}
 use lib.Dec.{eqb}
 use borrow.Author.Tests.{le-leb, lt-leb, eq-eqb, ne_eqb}
+use Rattle.std.proofs.Common.{Result, Ok, Err}
 use Rattle.run.specs.Choice.{pick, within}
 use Rattle.run.proofs.Choices.{pick_case, within_range}
 use Rattle.run.proofs.Range as range
@@ -12,7 +13,7 @@ use Rattle.sequence_reading.specs.declared.Kind.{Kind}
 use Rattle.sequence_reading.specs.declared.Kind.TheVariants.{Digit, Separator, Middle, Final, Other}
 use Rattle.sequence_reading.specs.declared.Scan.{Scan}
 use Rattle.sequence_reading.specs.declared.Next.{Next}
-use Rattle.sequence_reading.specs.declared.Next.TheVariants.{More, Value, Bad}
+use Rattle.sequence_reading.specs.declared.Next.TheVariants.{More, Value}
 use Rattle.sequence_reading.specs.Kinds.{counts_as, kind_counted, kind_of}
 use Rattle.sequence_reading.specs.SequenceHead.{unless_late, unless_full, kind_step, digit_step, value_step, middle_step, step_of}
 
@@ -60,47 +61,47 @@ final_says b f e = rw e at (carries b)
 -- ---- each outcome of a step, under conditions that `omega` can show
 
 module _ (s : Scan) where
-  pub is_late : (n : Next) → (s.middle ≡ 0 → ⊥) → unless_late s n ≡ Bad 6
+  pub is_late : (n : Result Next ℕ) → (s.middle ≡ 0 → ⊥) → unless_late s n ≡ Err 6
   is_late n m = simp (ne_eqb s.middle 0 m)
 
-  pub not_late : (n : Next) → s.middle ≡ 0 → unless_late s n ≡ n
+  pub not_late : (n : Result Next ℕ) → s.middle ≡ 0 → unless_late s n ≡ n
   not_late n m = simp (eq-eqb s.middle 0 m)
 
-  pub is_full : (n : Next) → 39 ≤ s.taken → unless_full s n ≡ Bad 8
+  pub is_full : (n : Result Next ℕ) → 39 ≤ s.taken → unless_full s n ≡ Err 8
   is_full n t = simp (le-leb 39 s.taken t)
 
-  pub not_full : (n : Next) → s.taken < 39 → unless_full s n ≡ n
+  pub not_full : (n : Result Next ℕ) → s.taken < 39 → unless_full s n ≡ n
   not_full n t = simp (lt-leb 39 s.taken t)
 
-  pub digit_late : (d : ℕ) → (s.middle ≡ 0 → ⊥) → digit_step s d ≡ Bad 6
+  pub digit_late : (d : ℕ) → (s.middle ≡ 0 → ⊥) → digit_step s d ≡ Err 6
   unfolding digit_step
   digit_late d m = is_late _ m
 
-  pub digit_passes : (d : ℕ) → 999 < s.current * 10 + d → digit_step s d ≡ unless_late s (Bad 7)
+  pub digit_passes : (d : ℕ) → 999 < s.current * 10 + d → digit_step s d ≡ unless_late s (Err 7)
   unfolding digit_step
   digit_passes d h = simp (lt-leb (s.current * 10 + d) 999 h)
 
   pub digit_within : (d v : ℕ) → v ≡ s.current * 10 + d → v ≤ 999
-      → digit_step s d ≡ unless_late s (unless_full s (More (record { current = v; closed = s.closed; middle = 0; taken = s.taken + 1 })))
+      → digit_step s d ≡ unless_late s (unless_full s (Ok (More (record { current = v; closed = s.closed; middle = 0; taken = s.taken + 1 }))))
   unfolding digit_step
   digit_within d v e h = simp (e, le-leb (s.current * 10 + d) 999 (omega arith))
 
-  pub value_late : (s.middle ≡ 0 → ⊥) → value_step s ≡ Bad 6
+  pub value_late : (s.middle ≡ 0 → ⊥) → value_step s ≡ Err 6
   unfolding value_step
   value_late m = is_late _ m
 
-  pub value_passes : 7 ≤ s.closed → value_step s ≡ unless_late s (Bad 7)
+  pub value_passes : 7 ≤ s.closed → value_step s ≡ unless_late s (Err 7)
   unfolding value_step
   value_passes h = simp (le-leb 7 s.closed h)
 
   pub value_within : s.closed < 7
-      → value_step s ≡ unless_late s (unless_full s (Value (record { current = 0; closed = s.closed + 1; middle = 0; taken = s.taken + 1 })))
+      → value_step s ≡ unless_late s (unless_full s (Ok (Value (record { current = 0; closed = s.closed + 1; middle = 0; taken = s.taken + 1 }))))
   unfolding value_step
   value_within h = simp (lt-leb 7 s.closed h)
 
   pub middle_within : (i : ℕ)
       → middle_step s i
-      ≡ unless_late s (unless_full s (More (record { current = s.current; closed = s.closed; middle = i; taken = s.taken + 1 })))
+      ≡ unless_late s (unless_full s (Ok (More (record { current = s.current; closed = s.closed; middle = i; taken = s.taken + 1 }))))
   unfolding middle_step
   middle_within i = refl
 

@@ -14,10 +14,11 @@ use Rattle.run.specs.Head.{Head, element}
 use Rattle.run.proofs.Choices.{within_range}
 use Rattle.run.proofs.Range as range
 use Rattle.run.proofs.Outcomes.{front_taken}
+use Rattle.std.proofs.Common.{Result, Ok, Err}
 use Rattle.sorts.specs.Forms.{CSI}
 use Rattle.sequence_reading.specs.declared.Scan.{Scan}
 use Rattle.sequence_reading.specs.declared.Next.{Next}
-use Rattle.sequence_reading.specs.declared.Next.TheVariants.{More, Value, Last, Bad}
+use Rattle.sequence_reading.specs.declared.Next.TheVariants.{More, Value, Last}
 use Rattle.sequence_reading.specs.Kinds.{counts_as, kind_of}
 use Rattle.sequence_reading.specs.Grammar.{Sequence, SpellsSequence, RefusesSequence}
 use Rattle.sequence_reading.specs.SequenceHead.{step_of, after, scan, sequence_head}
@@ -35,12 +36,12 @@ twins_length (and k h) = ap suc (twins_length h)
 
 -- ---- what stands at the head
 
-same_after : (n : Next) (vs : List ℕ) (a : Scan) (r q : List ℕ → Scan → Head Sequence) → ((ws : List ℕ) (c : Scan) → r ws c ≡ q ws c)
+same_after : (n : Result Next ℕ) (vs : List ℕ) (a : Scan) (r q : List ℕ → Scan → Head Sequence) → ((ws : List ℕ) (c : Scan) → r ws c ≡ q ws c)
     → after n vs a r ≡ after n vs a q
-same_after (More c) vs a r q h = h vs c
-same_after (Value c) vs a r q h = h _ c
-same_after (Last f) vs a r q h = refl
-same_after (Bad n) vs a r q h = refl
+same_after (Ok (More c)) vs a r q h = h vs c
+same_after (Ok (Value c)) vs a r q h = h _ c
+same_after (Ok (Last f)) vs a r q h = refl
+same_after (Err n) vs a r q h = refl
 
 same_step : (a : Scan) {b c : ℕ} → Twin b c → step_of a b ≡ step_of a c
 unfolding step_of
@@ -50,7 +51,7 @@ same_scan : {s t : List ℕ} → Twins s t → (vs : List ℕ) (a : Scan) → sc
 unfolding scan
 same_scan none vs a = refl
 same_scan (and {b} {c} {s} {t} k h) vs a =
-    ap (λ (n : Next). after n vs a (λ ws u. scan ws u s)) (same_step a k)
+    ap (λ (n : Result Next ℕ). after n vs a (λ ws u. scan ws u s)) (same_step a k)
     ∙ same_after (step_of a c) vs a (λ ws u. scan ws u s) (λ ws u. scan ws u t) (λ ws u. same_scan h ws u)
 
 -- What stands at the head is the same.

@@ -3,10 +3,8 @@
 -- Assumes nothing.
 use Rattle.std.specs.Prelude.{ℕ, ◌≡◌, ◌↔◌, List, get_or}
 use Rattle.sequence_reading.specs.declared.Kind.{Kind}
-use Rattle.sequence_reading.specs.declared.Values.{Values}
 use Rattle.sequence_reading.specs.declared.Reading.{Reading}
 use Rattle.sequence_reading.specs.Kinds.{kind_of, kind_number, kind_value, OfNoSequence, KindRow}
-use Rattle.sequence_reading.specs.EightValues.{list_of}
 use Rattle.sequence_reading.specs.SequenceHead.{reading_at}
 use Rattle.sequence_reading.specs.SequenceNumbers.{reading_answer, sequence_read, SequenceRow}
 
@@ -16,8 +14,8 @@ abbrev pub KindOfPromise : ℕ → Kind → Type 0
 KindOfPromise b r = (r ≡ kind_of b) × KindRow b r (kind_number r) (kind_value r) × ((kind_number r ≡ 6) ↔ OfNoSequence b)
 
 -- the value at an index; past the eight it is 0
-abbrev pub ValueAtPromise : Values → ℕ → ℕ → Type 0
-ValueAtPromise v k r = r ≡ get_or (list_of v) k 0
+abbrev pub ValueAtPromise : List ℕ → ℕ → ℕ → Type 0
+ValueAtPromise v k r = r ≡ get_or v k 0
 
 -- the sequence at a place; its four numbers, and the sequence, stand in 01's row for that place
 abbrev pub ReadSequencePromise : List ℕ → ℕ → Reading → Type 0

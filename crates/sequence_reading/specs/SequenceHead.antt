@@ -1,7 +1,7 @@
 -- Proved equal to the grammar (Reader: sequence_reads, refuses_exactly) and to 01's rows (NumbersExactly: reading_exactly): what the reader
 -- of a control sequence answers, octet by octet, from the 9B on. A part of the code: `Fair`.
 -- Assumes nothing.
-use Rattle.std.specs.Prelude.{ℕ, ◌+◌, ◌*◌, ◌≤◌, List, [], ◌∷◌, ◌++◌, length, drop, leb, eqb}
+use Rattle.std.specs.Prelude.{ℕ, Result, Ok, Err, ◌+◌, ◌*◌, ◌≤◌, List, [], ◌∷◌, ◌++◌, length, drop, leb, eqb}
 use Rattle.run.specs.Choice.{pick}
 use Rattle.run.specs.Head.{Head, element, refused, none}
 use Rattle.sorts.specs.Forms.{CSI}
@@ -9,7 +9,7 @@ use Rattle.sequence_reading.specs.declared.Kind.{Kind}
 use Rattle.sequence_reading.specs.declared.Kind.TheVariants.{Digit, Separator, Middle, Final, Other}
 use Rattle.sequence_reading.specs.declared.Scan.{Scan}
 use Rattle.sequence_reading.specs.declared.Next.{Next}
-use Rattle.sequence_reading.specs.declared.Next.TheVariants.{More, Value, Last, Bad}
+use Rattle.sequence_reading.specs.declared.Next.TheVariants.{More, Value, Last}
 use Rattle.sequence_reading.specs.declared.Reading.{Reading}
 use Rattle.sequence_reading.specs.declared.Reading.TheVariants.{Whole, Refused, End}
 use Rattle.sequence_reading.specs.Kinds.{kind_of}
@@ -19,52 +19,52 @@ use Rattle.sequence_reading.specs.EightValues.{values_of}
 -- ---- one octet
 
 -- number 6 after an intermediate
-abbrev pub unless_late : Scan → Next → Next
-unless_late s n = pick (eqb s.middle 0) n (Bad 6)
+abbrev pub unless_late : Scan → Result Next ℕ → Result Next ℕ
+unless_late s n = pick (eqb s.middle 0) n (Err 6)
 
 -- number 8 where this is the 40th octet
-abbrev pub unless_full : Scan → Next → Next
-unless_full s n = pick (leb 39 s.taken) (Bad 8) n
+abbrev pub unless_full : Scan → Result Next ℕ → Result Next ℕ
+unless_full s n = pick (leb 39 s.taken) (Err 8) n
 
 -- a digit: number 7 where the value passes 999
-unfoldable pub digit_step : Scan → ℕ → Next
+unfoldable pub digit_step : Scan → ℕ → Result Next ℕ
 digit_step s d =
     unless_late s
     (pick (leb (s.current * 10 + d) 999)
-    (unless_full s (More (record { current = s.current * 10 + d; closed = s.closed; middle = 0; taken = s.taken + 1 })))
-    (Bad 7))
+    (unless_full s (Ok (More (record { current = s.current * 10 + d; closed = s.closed; middle = 0; taken = s.taken + 1 }))))
+    (Err 7))
 
 -- a 3B: number 7 where it opens a ninth value
-unfoldable pub value_step : Scan → Next
+unfoldable pub value_step : Scan → Result Next ℕ
 value_step s =
     unless_late s
     (pick (leb 7 s.closed)
-    (Bad 7)
-    (unless_full s (Value (record { current = 0; closed = s.closed + 1; middle = 0; taken = s.taken + 1 }))))
+    (Err 7)
+    (unless_full s (Ok (Value (record { current = 0; closed = s.closed + 1; middle = 0; taken = s.taken + 1 })))))
 
 -- an intermediate
-unfoldable pub middle_step : Scan → ℕ → Next
+unfoldable pub middle_step : Scan → ℕ → Result Next ℕ
 middle_step s i =
     unless_late s
-    (unless_full s (More (record { current = s.current; closed = s.closed; middle = i; taken = s.taken + 1 })))
+    (unless_full s (Ok (More (record { current = s.current; closed = s.closed; middle = i; taken = s.taken + 1 }))))
 
-abbrev pub kind_step : Kind → Scan → Next
+abbrev pub kind_step : Kind → Scan → Result Next ℕ
 kind_step (Digit d) s = digit_step s d
 kind_step Separator s = value_step s
 kind_step (Middle i) s = middle_step s i
-kind_step (Final f) s = Last f
-kind_step Other s = Bad 6
+kind_step (Final f) s = Ok (Last f)
+kind_step Other s = Err 6
 
-unfoldable pub step_of : Scan → ℕ → Next
+unfoldable pub step_of : Scan → ℕ → Result Next ℕ
 step_of s b = kind_step (kind_of b) s
 
 -- ---- octet after octet: vs are the values that are closed
 
-abbrev pub after : Next → List ℕ → Scan → (List ℕ → Scan → Head Sequence) → Head Sequence
-after (More t) vs s rest = rest vs t
-after (Value t) vs s rest = rest (vs ++ (s.current ∷ [])) t
-after (Last f) vs s rest = element (record { middle = s.middle; last = f; values = vs ++ (s.current ∷ []) }) (s.taken + 1)
-after (Bad n) vs s rest = refused n s.taken
+abbrev pub after : Result Next ℕ → List ℕ → Scan → (List ℕ → Scan → Head Sequence) → Head Sequence
+after (Ok (More t)) vs s rest = rest vs t
+after (Ok (Value t)) vs s rest = rest (vs ++ (s.current ∷ [])) t
+after (Ok (Last f)) vs s rest = element (record { middle = s.middle; last = f; values = vs ++ (s.current ∷ []) }) (s.taken + 1)
+after (Err n) vs s rest = refused n s.taken
 
 unfoldable pub scan : List ℕ → Scan → List ℕ → Head Sequence
 scan vs s [] = refused 4 s.taken

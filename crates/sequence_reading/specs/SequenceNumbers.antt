@@ -8,7 +8,6 @@ use Rattle.sorts.specs.Forms.{CSI}
 use Rattle.sequence_reading.specs.declared.Reading.{Reading}
 use Rattle.sequence_reading.specs.declared.Reading.TheVariants.{Whole, Refused, End}
 use Rattle.sequence_reading.specs.Grammar.{Sequence, SpellsSequence, RefusesSequence}
-use Rattle.sequence_reading.specs.EightValues.{list_of}
 
 -- 01's four numbers of each answer for the place `at`: a sequence is one element, its place the place after it, its count its words, a
 -- head word and "one word a value"; a refusal has the place of its first octet and that of the deciding one; nothing where none is left
@@ -19,7 +18,7 @@ reading_answer at End = bare 0
 
 -- the sequence that was read: its intermediate (0 if none), its final, as many values as it has; none in any other answer
 abbrev pub sequence_read : Reading → List Sequence
-sequence_read (Whole m f n vs next) = record { middle = m; last = f; values = take n (list_of vs) } ∷ []
+sequence_read (Whole m f n vs next) = record { middle = m; last = f; values = take n vs } ∷ []
 sequence_read (Refused r deciding) = []
 sequence_read End = []
 

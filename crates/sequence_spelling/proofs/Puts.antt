@@ -4,12 +4,13 @@ use Prim.Native.Nat.{ℕ, suc, ◌+◌, ◌≤◌, ◌<◌}
 use mathlib.Core.Path.{◌≡◌, refl, sym, ap, ◌∙◌}
 use mathlib.Core.List.{List, [], ◌∷◌, ◌++◌, append_assoc, append-nil}
 use mathlib.Core.Bool.{Bool, true, false}
+use mathlib.Core.Logic.{◌↔◌, ◌⊎◌}
 use native.Mathlib.Numerals.{add-one}
 use native.Mathlib.Omega.{arith}
 use lib.ListN.{length, get_or, drop, length-append, drop_of_length-le}
 use lib.Seq.{drop-cons}
 use Rattle.run.specs.Put.{Put, what_fits}
-use Rattle.run.proofs.Choices.{is_false}
+use Rattle.run.proofs.Choices.{is_false, alike_tests}
 use Rattle.run.proofs.Puts.{put_none, put_both, put_as, put_length, put_one, all_fit, none_fits}
 use Rattle.sorts.specs.Forms.{CSI}
 use Rattle.sequence_reading.specs.Grammar.{Sequence, Small}
@@ -30,6 +31,15 @@ small_at (v ∷ vs) (suc k) s h = small_at vs k s.1 (omega arith)
 pub small_each : (vs : List ℕ) → ((k : ℕ) → k < length vs → get_or vs k 0 ≤ 999) → Small vs
 small_each [] h = tt
 small_each (v ∷ vs) h = (h 0 (omega arith), small_each vs (λ k g. h (suc k) (omega arith)))
+
+-- where the other parts are in range, the values decide
+pub fine_by_values : (m f : ℕ) (vs : List ℕ) (r : Bool) → (m ≡ 0) ⊎ ((0x20 ≤ m) × (m ≤ 0x2F)) → (0x40 ≤ f) × (f ≤ 0x7E)
+    → (1 ≤ length vs) × (length vs ≤ 8) → ((r ≡ true) ↔ ((k : ℕ) → k < length vs → get_or vs k 0 ≤ 999))
+    → r ≡ is_fine (record { middle = m; last = f; values = vs })
+fine_by_values m f vs r mid fin few h =
+    alike_tests r (is_fine _)
+    (λ e. (fine_test _).1 (record { middle = mid; low = fin.0; high = fin.1; some = few.0; eight = few.1; small = small_each vs (h.0 e) }))
+    (λ e. h.1 (λ k g. small_at vs k ((fine_test _).0 e).small g))
 
 -- ---- the size
 
@@ -116,16 +126,16 @@ module _ (out : List ℕ) (at : ℕ) (q : Sequence) where
 -- how far `put_rest` has come: what is written, and what is left
 pub record Partly (out₀ : List ℕ) (at : ℕ) (values out : List ℕ) (i k : ℕ) : Type 0 where
   pub done : List ℕ
-  pub all : done ++ spell_rest (drop k values) ≡ spell_rest (drop 1 values)
+  pub all : done ++ spell_rest (drop k values) ≡ spell_rest values
   pub put : Put out₀ at done out i
 
 module _ (out₀ : List ℕ) (at : ℕ) (values : List ℕ) where
-  pub partly_start : Partly out₀ at values out₀ at 1
+  pub partly_start : Partly out₀ at values out₀ at 0
   partly_start = record { done = []; all = refl; put = put_none out₀ at }
 
   module _ (out : List ℕ) (i k : ℕ) (s : Partly out₀ at values out i k) where
     -- what the next value takes is within what is left
-    pub partly_room : k < length values → i + 1 + length (digits_of (get_or values k 0)) ≤ at + length (spell_rest (drop 1 values))
+    pub partly_room : k < length values → i + 1 + length (digits_of (get_or values k 0)) ≤ at + length (spell_rest values)
     partly_room h =
         omega (
           arith,
@@ -147,7 +157,7 @@ module _ (out₀ : List ℕ) (at : ℕ) (values : List ℕ) where
           put = put_both s.put (put_both p q);
         }
 
-    pub partly_end : length values ≤ k → Put out₀ at (spell_rest (drop 1 values)) out i
+    pub partly_end : length values ≤ k → Put out₀ at (spell_rest values) out i
     unfolding spell_rest
     partly_end h =
         put_as

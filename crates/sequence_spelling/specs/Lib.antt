@@ -1,2 +1,3 @@
 pub mod SequenceOctets
+pub mod Said
 pub mod Promises

@@ -1,45 +1,25 @@
 // One control sequence of form 3, spelt.
 #![tactic(auto)]
 
-ghost use Rattle.std.specs.Prelude.{◌≡◌, ◌+◌, ◌%◌, ◌≤◌, length, drop};
+ghost use Rattle.std.specs.Prelude.{◌≡◌, ◌+◌, ◌%◌, ◌≤◌, ◌↔◌, length, slice_index, EachIndex, IsTrue};
 ghost use Rattle.run.specs.Put.{Put};
 ghost use Rattle.sequence_spelling.specs.SequenceOctets.{digits_of, spell_rest, spell_middle, spell_sequence};
 ghost use Rattle.sequence_spelling.specs.SequenceOctets.{is_fine};
+ghost use Rattle.sequence_spelling.specs.Said.{said};
 ghost use Rattle.sequence_spelling.specs.Promises.{SequenceSizePromise, PutSequencePromise};
 
-// Whether these can be a sequence. 01: an intermediate of 20 to 2F or none, a final of 40 to 7E, "at most 8 values, each at most 999", and
-// "always one value at least".
-fn is_fine(middle: u8, last: u8, values: &[u32]) -> bool
-    ensures { result ≡ is_fine (record { middle = middle; last = last; values = values.now }) }
+// A sequence as it is to be spelt: its intermediate (0 if none), its final, its values.
+#[derive(Clone, Copy)]
+pub struct Sequence<'a> {
+    pub middle: u8,
+    pub last: u8,
+    pub values: &'a [u32],
+}
+
+fn are_small(values: &[u32]) -> bool
+    ensures { IsTrue result ↔ EachIndex values.now (λ k. slice_index values.now k ≤ 999) }
 {
-    if middle != 0 {
-        if middle < 0x20 {
-            return false;
-        }
-        if 0x2F < middle {
-            return false;
-        }
-    }
-    if last < 0x40 {
-        return false;
-    }
-    if 0x7E < last {
-        return false;
-    }
-    if values.len() < 1 {
-        return false;
-    }
-    if 8 < values.len() {
-        return false;
-    }
-    let mut k = 0;
-    while k < values.len() {
-        if 999 < values[k] {
-            return false;
-        }
-        k += 1;
-    }
-    true
+    values.iter().all(|&v| v <= 999)
 }
 
 // How many digits a value has; 0 has none.
@@ -60,26 +40,10 @@ fn values_size(values: &[u32]) -> usize
     ensures { result ≡ length (spell_rest values.now) }
 {
     let mut n = 0;
-    let mut k = 0;
-    while k < values.len() {
-        n += 1 + value_size(values[k]);
-        k += 1;
+    for &v in values {
+        n += 1 + value_size(v);
     }
     n
-}
-
-// How many octets a sequence is spelt with; 0 where these cannot be one.
-pub fn sequence_size(middle: u8, last: u8, values: &[u32]) -> usize
-    ensures { SequenceSizePromise middle last values.now result }
-{
-    if !is_fine(middle, last, values) {
-        return 0;
-    }
-    let n = values_size(values) + 1;
-    if middle == 0 {
-        return n;
-    }
-    n + 1
 }
 
 // The octet of a number's last digit.
@@ -110,16 +74,14 @@ fn put_value(out: &mut [u8], at: usize, v: u32) -> usize
 }
 
 // Each value after the first, behind its 3B; 01: "the number of values is kept".
-fn put_rest(out: &mut [u8], at: usize, values: &[u32]) -> usize
-    requires { at + length (spell_rest (drop 1 values.now)) ≤ length out.old }
-    ensures { Put out.old at (spell_rest (drop 1 values.now)) out.new result }
+fn put_rest(out: &mut [u8], at: usize, rest: &[u32]) -> usize
+    requires { at + length (spell_rest rest.now) ≤ length out.old }
+    ensures { Put out.old at (spell_rest rest.now) out.new result }
 {
     let mut i = at;
-    let mut k = 1;
-    while k < values.len() {
+    for &v in rest {
         i = run::put(out, i, 0x3B);
-        i = put_value(out, i, values[k]);
-        k += 1;
+        i = put_value(out, i, v);
     }
     i
 }
@@ -135,34 +97,51 @@ fn put_middle(out: &mut [u8], at: usize, middle: u8) -> usize
     run::put(out, at, middle)
 }
 
-// The whole spelling, where there is a value and room for it.
-fn put_whole(middle: u8, last: u8, values: &[u32], out: &mut [u8], at: usize) -> usize
-    requires some_value { 1 ≤ length values.now }
-    requires room { at + length (spell_sequence (record { middle = middle; last = last; values = values.now })) ≤ length out.old }
-    ensures { Put out.old at
-        (spell_sequence (record { middle = middle; last = last; values = values.now })) out.new result }
-{
-    let a = run::put(out, at, sorts::CSI);
-    let b = put_value(out, a, values[0]);
-    let c = put_rest(out, b, values);
-    let d = put_middle(out, c, middle);
-    run::put(out, d, last)
-}
+impl Sequence<'_> {
+    // Whether it can be one. 01: an intermediate of 20 to 2F or none, a final of 40 to 7E, "at most 8 values, each at most 999", and "always
+    // one value at least".
+    fn is_fine(self) -> bool
+        ensures { result ≡ is_fine (said self.entry) }
+    {
+        matches!(self.middle, 0 | 0x20..=0x2F)
+            && matches!(self.last, 0x40..=0x7E)
+            && matches!(self.values.len(), 1..=8)
+            && are_small(self.values)
+    }
 
-// Spells the sequence at `at` of `out` and answers the place after it; where these cannot be a sequence or the room is short, it does
-// nothing and answers `at`.
-pub fn put_sequence(middle: u8, last: u8, values: &[u32], out: &mut [u8], at: usize) -> usize
-    ensures { PutSequencePromise middle last values.now out.old at result out.new }
-{
-    let size = sequence_size(middle, last, values);
-    if size == 0 {
-        return at;
+    // How many octets it is spelt with; 0 where it cannot be one.
+    pub fn size(self) -> usize
+        ensures { SequenceSizePromise self.entry.middle self.entry.last self.entry.values.now result }
+    {
+        if !self.is_fine() {
+            return 0;
+        }
+        let n = values_size(self.values) + 1;
+        if self.middle == 0 { n } else { n + 1 }
     }
-    if out.len() < at {
-        return at;
+
+    // The whole spelling, where there is a value and room for it.
+    fn put_whole(self, out: &mut [u8], at: usize) -> usize
+        requires some_value { 1 ≤ length self.values.now }
+        requires room { at + length (spell_sequence (said self)) ≤ length out.old }
+        ensures { Put out.old at (spell_sequence (said self.entry)) out.new result }
+    {
+        let a = run::put(out, at, sorts::CSI);
+        let b = put_value(out, a, self.values[0]);
+        let c = put_rest(out, b, &self.values[1..]);
+        let d = put_middle(out, c, self.middle);
+        run::put(out, d, self.last)
     }
-    if out.len() - at < size {
-        return at;
+
+    // Spells it at `at` of `out` and answers the place after it; where it cannot be one or the room is short, it does nothing and answers
+    // `at`.
+    pub fn put(self, out: &mut [u8], at: usize) -> usize
+        ensures { PutSequencePromise self.entry.middle self.entry.last self.entry.values.now out.old at result out.new }
+    {
+        let size = self.size();
+        if size == 0 || out.len() < at || out.len() - at < size {
+            return at;
+        }
+        self.put_whole(out, at)
     }
-    put_whole(middle, last, values, out, at)
 }

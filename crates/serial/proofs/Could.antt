@@ -1,13 +1,12 @@
 -- The test of a carry that is read on is exactly its bounds.
 -- Assumes nothing.
-use Prim.Native.Nat.{ℕ, ◌-◌}
-use mathlib.Core.Path.{◌≡◌, refl}
+use Prim.Native.Nat.{◌-◌}
+use mathlib.Core.Path.{◌≡◌}
 use mathlib.Core.Logic.{◌↔◌}
-use mathlib.Core.Bool.{Bool, true, false}
-use native.Mathlib.Omega.{arith}
+use mathlib.Core.Bool.{true}
 use lib.Dec.{eqb, leb}
 use borrow.Author.Tests.{le-leb, leb-true, eqb-true}
-use Rattle.run.specs.Choice.{pick}
+use Rattle.run.proofs.Choices.{both_true}
 use Rattle.sorts.specs.declared.Form.{Form}
 use Rattle.text_reading.specs.ReadingNumbers.{limit}
 use Rattle.open_elements.specs.OpenElements.{is_open}
@@ -15,20 +14,16 @@ use Rattle.open_elements.proofs.Opened.{open_exactly}
 use Rattle.serial.specs.declared.Carry.{Carry}
 use Rattle.serial.specs.Feeding.{waiting, CouldGo, could_go}
 
-pub and_true : (a b : Bool) → pick a b false ≡ true → (a ≡ true) × (b ≡ true)
-and_true true b e = (refl, e)
-and_true false b e = let z : ◌≡◌ {A = ℕ} 0 1 = cc in absurd (omega arith)
-
 module _ (f : Form) (c : Carry) where
   forth : could_go f c ≡ true → CouldGo f c
   forth e =
-      let e1 = and_true (eqb c.answer.number 0) _ e in
-      let e2 = and_true (leb c.respelled c.answer.element) _ e1.1 in
-      let e3 = and_true _ _ e2.1 in
-      let e4 = and_true _ _ e3.1 in
-      let e5 = and_true _ _ e4.1 in
-      let e6 = and_true _ _ e5.1 in
-      let e7 = and_true _ (is_open f (waiting c)) e6.1 in
+      let e1 = both_true (eqb c.answer.number 0) _ e in
+      let e2 = both_true (leb c.respelled c.answer.element) _ e1.1 in
+      let e3 = both_true _ _ e2.1 in
+      let e4 = both_true _ _ e3.1 in
+      let e5 = both_true _ _ e4.1 in
+      let e6 = both_true _ _ e5.1 in
+      let e7 = both_true _ (is_open f (waiting c)) e6.1 in
       record {
         number = eqb-true _ 0 e1.0;
         respelled = leb-true _ _ e2.0;

@@ -8,7 +8,7 @@ use lib.ListN.{length}
 use borrow.Author.Tests.{le-leb, lt-leb, ne_eqb}
 use Rattle.run.specs.Answers.{bare}
 use Rattle.sorts.specs.declared.Form.{Form}
-use Rattle.sorts.specs.declared.FormFound.TheVariants.{Is, Nothing}
+use Rattle.std.specs.Prelude.{Some, None}
 use Rattle.sorts.specs.Forms.{form_of}
 use Rattle.text_reading.specs.ReadingNumbers.{limit}
 use Rattle.serial.specs.declared.Carry.{Carry}
@@ -18,11 +18,11 @@ use Rattle.serial.specs.Promises.{FeedPromise}
 
 module _ (c : Carry) (piece : List ℕ) (ended : Bool) (words : List ℕ) where
   -- it has no form
-  pub edge_none : {r : Fed} → r ≡ kept_by c (bare 11) → form_of c.form ≡ Nothing → FeedPromise c piece ended words r words
+  pub edge_none : {r : Fed} → r ≡ kept_by c (bare 11) → form_of c.form ≡ None → FeedPromise c piece ended words r words
   unfolding feed_answer feed_words
   edge_none e is = (e ∙ sym (simp is), sym (simp is))
 
-  module _ {f : Form} (is : form_of c.form ≡ Is f) where
+  module _ {f : Form} (is : form_of c.form ≡ Some f) where
     -- the page ended or was refused
     module _ (over : c.stopped ≡ 0 → ⊥) where
       pub edge_repeats : {r : Fed} → r ≡ repeated_by c → could_stop c ≡ true → FeedPromise c piece ended words r words

@@ -11,11 +11,11 @@ use lib.ListN.{length, take, drop, length-append, length-take}
 use lib.Seq.{take-append_seam}
 use borrow.Author.Tests.{leb-true, leb-false, eqb-true}
 use Rattle.run.specs.Choice.{pick}
+use Rattle.run.proofs.Choices.{both_true}
 use Rattle.run.specs.declared.Answer.{Answer}
 use Rattle.run.specs.Answers.{bare, short_room, over}
 use Rattle.sorts.specs.declared.Form.{Form}
-use Rattle.sorts.specs.declared.FormFound.{FormFound}
-use Rattle.sorts.specs.declared.FormFound.TheVariants.{Is, Nothing}
+use Rattle.std.specs.Prelude.{Option, Some, None}
 use Rattle.sorts.specs.Forms.{form_of, in_form}
 use Rattle.element_reading.specs.ElementNumbers.{reading}
 use Rattle.text_loops.specs.declared.Measured.{Measured}
@@ -50,7 +50,7 @@ use Rattle.serial.specs.Feeding.{
 use Rattle.serial.specs.Promises.{FeedPromise}
 use Rattle.serial.specs.Calls.{Call, answer_to, Calls}
 use Rattle.open_elements.proofs.Fronts.{Modest, modest}
-use Rattle.serial.proofs.Could.{and_true, could_go_exactly}
+use Rattle.serial.proofs.Could.{could_go_exactly}
 
 -- nothing has happened
 pub record Untouched (c : Carry) (words : List ℕ) (fed : Fed) (after : List ℕ) : Type 0 where
@@ -169,9 +169,9 @@ module _ (c : Carry) (piece : List ℕ) (ended : Bool) (words : List ℕ) where
     -- the answer that is repeated
     ends_of : could_stop c ≡ true → (could_carry c.answer c.respelled ≡ true) × (could_end c.answer ≡ true)
     ends_of k =
-        let e1 = and_true (eqb c.stopped 1) _ k in
-        let e2 = and_true (eqb c.holds 0) _ e1.1 in
-        and_true (could_carry c.answer c.respelled) (could_end c.answer) e2.1
+        let e1 = both_true (eqb c.stopped 1) _ k in
+        let e2 = both_true (eqb c.holds 0) _ e1.1 in
+        both_true (could_carry c.answer c.respelled) (could_end c.answer) e2.1
 
     nobodys : Leaves (kept_by c (bare 11)) words
     nobodys = kept_leaves (bare 11) 0 (could_carry_none _) (λ r e. omega (arith, e))
@@ -189,13 +189,13 @@ module _ (c : Carry) (piece : List ℕ) (ended : Bool) (words : List ℕ) where
         kept_leaves c.answer c.respelled (could_carry_lem _ _ could.0) (λ r n. not_nine c.answer could.1 n)
     by_carry_lem false g e false k = nobodys
 
-  by_form : (y : FormFound)
+  by_form : (y : Option Form)
       → Leaves
       (in_form y (kept_by c (bare 11)) (λ f. by_carry f c (kept_by c (bare 11)) (repeated_by c)
       (unless_past c piece (stopped_by c.form (bare 12) 0 0) (fed_in f c piece ended (length words)))))
       (in_form y words (λ f. by_carry f c words words (unless_past c piece words (words_in f c piece words))))
-  by_form (Is f) = by_carry_lem f (eqb c.stopped 0) (could_go f c) refl (could_stop c) refl
-  by_form Nothing = kept_leaves (bare 11) 0 (could_carry_none _) (λ r e. omega (arith, e))
+  by_form (Some f) = by_carry_lem f (eqb c.stopped 0) (could_go f c) refl (could_stop c) refl
+  by_form None = kept_leaves (bare 11) 0 (could_carry_none _) (λ r e. omega (arith, e))
 
   leaves : Leaves (feed_answer c piece ended (length words)) (feed_words c piece words)
   unfolding feed_answer feed_words

@@ -17,7 +17,7 @@ use Rattle.run.specs.Answers.{answer, bare, short_room, given, over}
 use Rattle.run.proofs.Outcomes as outcomes
 use Rattle.run.proofs.Answers.{given_append, given_length}
 use Rattle.sorts.specs.declared.Form.{Form}
-use Rattle.sorts.specs.declared.FormFound.TheVariants.{Is}
+use Rattle.std.specs.Prelude.{Some}
 use Rattle.sorts.specs.Forms.{form_of}
 use Rattle.element_words.specs.declared.Element.{Element}
 use Rattle.element_words.specs.Words.{words_of}
@@ -66,7 +66,7 @@ pub record Holds (f : Form) (octets : List ℕ) (c : Carry) : Type 0 where
   pub whole : octets ≡ front ++ waiting c
   pub run : RunOf (Spells f) front es
   pub begun : Open f (waiting c)
-  pub is_form : form_of c.form ≡ Is f
+  pub is_form : form_of c.form ≡ Some f
   pub goes : c.stopped ≡ 0
   pub respelled : c.respelled ≡ respelled_before f front
   pub size : c.holds ≡ length (waiting c)

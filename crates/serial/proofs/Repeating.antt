@@ -13,8 +13,7 @@ use Rattle.run.specs.declared.Answer.{Answer}
 use Rattle.run.specs.declared.ReadAnswer.{ReadAnswer}
 use Rattle.run.specs.Answers.{bare, short_room}
 use Rattle.sorts.specs.declared.Form.{Form}
-use Rattle.sorts.specs.declared.FormFound.{FormFound}
-use Rattle.sorts.specs.declared.FormFound.TheVariants.{Is, Nothing}
+use Rattle.std.specs.Prelude.{Option, Some, None}
 use Rattle.sorts.specs.Forms.{form_of, in_form}
 use Rattle.element_reading.specs.ElementNumbers.{reading}
 use Rattle.text_loops.specs.declared.Measured.{Measured}
@@ -60,7 +59,7 @@ Says c a =
     → (feed_answer c piece ended (length words) ≡ unmoved c a) × (feed_words c piece words ≡ words)
 
 -- a page that ended or was refused
-pub stopped_says : {f : Form} (form : ℕ) (a : Answer) (k handed : ℕ) → form_of form ≡ Is f → could_carry a k ≡ true → could_end a ≡ true
+pub stopped_says : {f : Form} (form : ℕ) (a : Answer) (k handed : ℕ) → form_of form ≡ Some f → could_carry a k ≡ true → could_end a ≡ true
     → Says (stopped_by form a k handed).carry (reading a k)
 unfolding feed_answer feed_words
 stopped_says form a k handed is carries could piece ended words = (simp (is, carries, could), simp (is, carries, could))
@@ -137,24 +136,24 @@ module _ (c : Carry) (piece : List ℕ) (ended : Bool) (words : List ℕ) where
   Settles r = (r.answer.number ≡ 9 → ⊥) → (r.answer.number ≡ 0 → ended ≡ true) → Says r.carry (numbers_of r)
 
   -- a carry that no feeding could have left
-  none_settles : form_of c.form ≡ Nothing → Settles (kept_by c (bare 11))
+  none_settles : form_of c.form ≡ None → Settles (kept_by c (bare 11))
   unfolding feed_answer feed_words
   none_settles is not_9 at_end p e w = (simp is, simp is)
 
-  nobodys_going : {f : Form} → form_of c.form ≡ Is f → eqb c.stopped 0 ≡ true → could_go f c ≡ false → Settles (kept_by c (bare 11))
+  nobodys_going : {f : Form} → form_of c.form ≡ Some f → eqb c.stopped 0 ≡ true → could_go f c ≡ false → Settles (kept_by c (bare 11))
   unfolding feed_answer feed_words
   nobodys_going is e g not_9 at_end p n w = (simp (is, e, g), simp (is, e, g))
 
-  nobodys_stopped : {f : Form} → form_of c.form ≡ Is f → eqb c.stopped 0 ≡ false → could_stop c ≡ false
+  nobodys_stopped : {f : Form} → form_of c.form ≡ Some f → eqb c.stopped 0 ≡ false → could_stop c ≡ false
       → Settles (kept_by c (bare 11))
   unfolding feed_answer feed_words
   nobodys_stopped is e g not_9 at_end p n w = (simp (is, e, g), simp (is, e, g))
 
-  stopped_settles : {f : Form} → form_of c.form ≡ Is f → eqb c.stopped 0 ≡ false → could_stop c ≡ true → Settles (repeated_by c)
+  stopped_settles : {f : Form} → form_of c.form ≡ Some f → eqb c.stopped 0 ≡ false → could_stop c ≡ true → Settles (repeated_by c)
   unfolding feed_answer feed_words
   stopped_settles is e g not_9 at_end p n w = (simp (is, e, g), simp (is, e, g))
 
-  module _ {f : Form} (is : form_of c.form ≡ Is f) where
+  module _ {f : Form} (is : form_of c.form ≡ Some f) where
     -- of a page that goes on
     module _ (could : could_go f c ≡ true) where
       abbrev m : Measured
@@ -198,11 +197,11 @@ module _ (c : Carry) (piece : List ℕ) (ended : Bool) (words : List ℕ) where
   unfolding feed_answer
   settles = by_form (form_of c.form) refl
     where
-      by_form : (y : FormFound) → form_of c.form ≡ y
+      by_form : (y : Option Form) → form_of c.form ≡ y
           → Settles (in_form y (kept_by c (bare 11)) (λ f. by_carry f c (kept_by c (bare 11)) (repeated_by c)
           (unless_past c piece (stopped_by c.form (bare 12) 0 0) (fed_in f c piece ended (length words)))))
-      by_form (Is f) q = by_carry_lem q (eqb c.stopped 0) refl (could_go f c) refl (could_stop c) refl
-      by_form Nothing q = none_settles q
+      by_form (Some f) q = by_carry_lem q (eqb c.stopped 0) refl (could_go f c) refl (could_stop c) refl
+      by_form None q = none_settles q
 
 -- ---- the calls after it
 

@@ -18,7 +18,7 @@ use Rattle.run.proofs.Answers.{carrying_it}
 use Rattle.run.proofs.Outcomes.{placed}
 use Rattle.run.proofs.Before.{given_before}
 use Rattle.sorts.specs.declared.Form.{Form}
-use Rattle.sorts.specs.declared.FormFound.TheVariants.{Is, Nothing}
+use Rattle.std.specs.Prelude.{Some, None}
 use Rattle.sorts.specs.Forms.{form_of, NoForm}
 use Rattle.sorts.proofs.FormNumbers.{none_exactly}
 use Rattle.element_words.specs.declared.Element.{Element}
@@ -75,7 +75,7 @@ use Rattle.serial.proofs.Pages.{
 }
 
 -- a fresh carry of a form
-fresh_holds : {f : Form} (form : ℕ) → form_of form ≡ Is f → Holds f [] (fresh_carry form)
+fresh_holds : {f : Form} (form : ℕ) → form_of form ≡ Some f → Holds f [] (fresh_carry form)
 unfolding given
 fresh_holds {f} form is =
     record {
@@ -93,11 +93,11 @@ fresh_holds {f} form is =
       says = refl;
     }
 
-made_fresh : {f : Form} (form : ℕ) → form_of form ≡ Is f → fresh_answer form ≡ kept_by (fresh_carry form) (bare 0)
+made_fresh : {f : Form} (form : ℕ) → form_of form ≡ Some f → fresh_answer form ≡ kept_by (fresh_carry form) (bare 0)
 unfolding fresh_answer
 made_fresh form is = simp is
 
-not_made : (form : ℕ) → form_of form ≡ Nothing → fresh_answer form ≡ kept_by (fresh_carry 0) (bare 11)
+not_made : (form : ℕ) → form_of form ≡ None → fresh_answer form ≡ kept_by (fresh_carry 0) (bare 11)
 unfolding fresh_answer
 not_made form is = simp is
 
@@ -156,7 +156,7 @@ module _ (f : Form) (s : List ℕ) {a : Answer} (e : a ≡ roomy_answer words_of
       ap (λ (b : Answer). b.count) (e ∙ ap (roomy_answer words_of (length s)) r.1)
       ∙ ap length (sym (given_before (reads f) words_of s r.0 r.1))
 
-module _ {form : ℕ} {f : Form} (is : form_of form ≡ Is f) {calls : List Call} {d : Carry} (session : Session form calls d) where
+module _ {form : ℕ} {f : Form} (is : form_of form ≡ Some f) {calls : List Call} {d : Carry} (session : Session form calls d) where
   begun : Calls (fresh_carry form) calls d
   begun = subst (λ (c : Carry). Calls c calls d) (ap (λ (r : Fed). r.carry) (session.fresh ∙ made_fresh form is)) session.fed
 
@@ -275,7 +275,7 @@ module _ {form : ℕ} {f : Form} (is : form_of form ≡ Is f) {calls : List Call
       final.not_9 final.at_end
 
 -- "However a page is cut": two cuts of one page within the limit hand out the same words and end in the same answer, its fifth number too.
-pub same_page : {form : ℕ} {f : Form} → form_of form ≡ Is f → {calls calls' : List Call} {d d' : Carry} {a a' : ReadAnswer}
+pub same_page : {form : ℕ} {f : Form} → form_of form ≡ Some f → {calls calls' : List Call} {d d' : Carry} {a a' : ReadAnswer}
     → Session form calls d → Session form calls' d' → Ends (without (9 ∷ []) calls) a → Ends (without (9 ∷ []) calls') a'
     → page calls ≡ page calls' → length (page calls) ≤ limit → (a ≡ a') × (handed_out calls ≡ handed_out calls')
 same_page {form} {f} is {calls} {calls'} s s' ends ends' same within =

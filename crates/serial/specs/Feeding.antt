@@ -85,7 +85,11 @@ unmoved c a = record { carry = c; answer = a.answer; respelled = a.respelled; ha
 abbrev pub kept_by : Carry → Answer → Fed
 kept_by c a = unmoved c (reading a 0)
 
--- with what the carry says: the answer of a page that ended or was refused, again
+-- with what the carry says, so many words handed out
+abbrev pub handed_by : Carry → ℕ → Fed
+handed_by c handed = record { carry = c; answer = c.answer; respelled = c.respelled; handed = handed }
+
+-- none: the answer of a page that ended or was refused, again
 abbrev pub repeated_by : Carry → Fed
 repeated_by c = unmoved c (reading c.answer c.respelled)
 

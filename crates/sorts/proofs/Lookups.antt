@@ -8,38 +8,31 @@ use mathlib.Core.Bool.{Bool, true, false}
 use native.Mathlib.Omega.{arith}
 use lib.Dec.{eqb}
 use borrow.Author.Tests.{eqb-false}
+use Rattle.std.proofs.lemmas.Option.{none-some}
 use Rattle.run.specs.Choice.{pick, first_by}
 use Rattle.run.proofs.Search.{Hit, hit}
-use Rattle.sorts.specs.declared.Found.TheVariants.{Char, Nothing}
-use Rattle.sorts.specs.declared.Octet.{Octet}
-use Rattle.sorts.specs.declared.Octet.TheVariants.{Is, Absent}
+use Rattle.std.specs.Prelude.{Some, None, Option}
 use Rattle.sorts.specs.Cells.{Cell, ◌is◌, octet, meaning, char_in, octet_in}
 
-abbrev pub is_octet : Cell → Octet
-is_octet cell = Is (octet cell)
-
-pub nothing_char : {c : ℕ} → Nothing ≡ Char c → ⊥
-nothing_char e = let z : ◌≡◌ {A = ℕ} 0 1 = cc in omega arith
-
-pub absent_is : {o : ℕ} → Absent ≡ Is o → ⊥
-absent_is e = let z : ◌≡◌ {A = ℕ} 0 1 = cc in omega arith
+abbrev pub is_octet : Cell → Option ℕ
+is_octet cell = Some (octet cell)
 
 -- the cell that a found octet comes from
-pub octet_hit : (cells : List Cell) (c o : ℕ) → octet_in cells c ≡ Is o → Hit meaning is_octet Absent cells c (Is o)
-octet_hit cells c o e = hit meaning is_octet Absent cells c (Is o) absent_is e
+pub octet_hit : (cells : List Cell) (c o : ℕ) → octet_in cells c ≡ Some o → Hit meaning is_octet None cells c (Some o)
+octet_hit cells c o e = hit meaning is_octet None cells c (Some o) (none-some _) e
 
 same_cell : (x : Cell) (o c : ℕ) → octet x ≡ o → meaning x ≡ c → x ≡ o is c
 same_cell (a is d) o c p q = cc
 
-pub octet_cell : (cells : List Cell) (c o : ℕ) → octet_in cells c ≡ Is o → Memᴰ (o is c) cells
+pub octet_cell : (cells : List Cell) (c o : ℕ) → octet_in cells c ≡ Some o → Memᴰ (o is c) cells
 octet_cell cells c o e =
     let h = octet_hit cells c o e in
     Memᴰ.cast (sym (same_cell h.entry o c (cc h.is_given) h.has_key)) h.member
 
 -- the cell that a found character comes from
-pub char_cell : (cells : List Cell) (o c : ℕ) → char_in cells o ≡ Char c → Memᴰ (o is c) cells
+pub char_cell : (cells : List Cell) (o c : ℕ) → char_in cells o ≡ Some c → Memᴰ (o is c) cells
 char_cell cells o c e =
-    let h = hit octet (λ cell. Char (meaning cell)) Nothing cells o (Char c) nothing_char e in
+    let h = hit octet (λ cell. Some (meaning cell)) None cells o (Some c) (none-some _) e in
     Memᴰ.cast (sym (same_cell h.entry o c h.has_key (cc h.is_given))) h.member
 
 -- ---- where nothing is found
@@ -56,8 +49,8 @@ module _ {A B : Type 0} (key : A → ℕ) (gives : A → B) (missing : B) (given
       eqb-false (key x) k (none_by x l k (eqb (key x) k) refl e).0 (sym (ap key p) ∙ q)
   none_there k e (Memᴰ.tail {x = x} {xs = l} h) q = none_there k (none_by x l k (eqb (key x) k) refl e).1 h q
 
-pub none_octet : (cells : List Cell) (c o : ℕ) → octet_in cells c ≡ Absent → Memᴰ (o is c) cells → ⊥
-none_octet cells c o e h = none_there meaning is_octet Absent (λ cell q. absent_is (sym q)) c e h refl
+pub none_octet : (cells : List Cell) (c o : ℕ) → octet_in cells c ≡ None → Memᴰ (o is c) cells → ⊥
+none_octet cells c o e h = none_there meaning is_octet None (λ cell q. none-some _ (sym q)) c e h refl
 
-pub none_char : (cells : List Cell) (o c : ℕ) → char_in cells o ≡ Nothing → Memᴰ (o is c) cells → ⊥
-none_char cells o c e h = none_there octet (λ cell. Char (meaning cell)) Nothing (λ cell q. nothing_char (sym q)) o e h refl
+pub none_char : (cells : List Cell) (o c : ℕ) → char_in cells o ≡ None → Memᴰ (o is c) cells → ⊥
+none_char cells o c e h = none_there octet (λ cell. Some (meaning cell)) None (λ cell q. none-some _ (sym q)) o e h refl

@@ -9,22 +9,20 @@ use Rattle.sorts.specs.Cells.{octet_in}
 use Rattle.sorts.specs.Tables.{supplementary}
 use Rattle.sorts.specs.Forms.{form_of}
 use Rattle.sorts.specs.Sorts.{sort_in, shifted_in}
-use Rattle.sorts.specs.Promises.{FormOfPromise, WidePromise, SortInPromise, SortShiftedPromise, FindSpacingPromise}
+use Rattle.sorts.specs.Promises.{FormOfPromise, SortInPromise, SortShiftedPromise, FindSpacingPromise}
 use Rattle.sorts.specs.Promises.{FormOfNumbers, SortInNumbers, SortShiftedNumbers, FindSpacingNumbers}
 use Rattle.sorts.proofs.SortsExactly.{sort_by_lem, shifted_by_lem}
-use Rattle.sorts.proofs.NumbersExactly.{form_by, spacing_by}
+use Rattle.sorts.proofs.NumbersExactly.{answered_form, same_found, form_by, spacing_by}
 
-pub one_answer : (form : Form) (number octet x c : ℕ)
+pub one_answer : (form : Form) (number octet c : ℕ)
     → Once (FormOfPromise number)
     × Once (SortInPromise form octet)
     × Once (SortShiftedPromise form octet)
-    × Once (WidePromise x)
     × Once (FindSpacingPromise c)
-one_answer form number octet x c = (
-  once (FormOfPromise number) (form_of number) (λ r p. p.0),
+one_answer form number octet c = (
+  once (FormOfPromise number) (answered_form (form_of number)) (λ r p. same_found r (form_of number) p.0),
   once (SortInPromise form octet) (sort_in form octet) (λ r p. p.0),
   once (SortShiftedPromise form octet) (shifted_in form octet) (λ r p. p.0),
-  once (WidePromise x) x (λ r p. p),
   once (FindSpacingPromise c) (octet_in supplementary c) (λ r p. p.0),
 )
 

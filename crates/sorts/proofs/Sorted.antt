@@ -9,8 +9,7 @@ use Rattle.run.proofs.Choices.{pick_case, one_of_lem}
 use Rattle.sorts.specs.declared.Form.{Form}
 use Rattle.sorts.specs.declared.Sort.{Sort}
 use Rattle.sorts.specs.declared.Sort.TheVariants.{Graphic, Mark, Underline, Shift, Control, SequenceStart, Refused}
-use Rattle.sorts.specs.declared.Found.{Found}
-use Rattle.sorts.specs.declared.Found.TheVariants.{Char, Nothing}
+use Rattle.std.specs.Prelude.{Option, Some, None}
 use Rattle.sorts.specs.Cells.{◌is◌, char_in}
 use Rattle.sorts.specs.Forms.{Alphabet, alphabet_of}
 use Rattle.sorts.specs.Sorts.{too_high, mark_or_graphic, sort_by, shifted_by, sort_in, shifted_in}
@@ -39,15 +38,15 @@ SaysShifted a o SequenceStart = ⊥
 SaysShifted a o (Refused n) = (n ≡ 1) ⊎ (n ≡ 5)
 
 module _ (a : Alphabet) (o : ℕ) where
-  coded : (x y : Found) → char_in a.marks o ≡ x → char_in a.graphics o ≡ y → Says a o (mark_or_graphic x y)
-  coded (Char m) y ex ey = char_cell a.marks o m ex
-  coded Nothing (Char c) ex ey = char_cell a.graphics o c ey
-  coded Nothing Nothing ex ey = inl refl
+  coded : (x y : Option ℕ) → char_in a.marks o ≡ x → char_in a.graphics o ≡ y → Says a o (mark_or_graphic x y)
+  coded (Some m) y ex ey = char_cell a.marks o m ex
+  coded None (Some c) ex ey = char_cell a.graphics o c ey
+  coded None None ex ey = inl refl
 
-  coded_shifted : (x y : Found) → char_in a.shifted_marks o ≡ x → char_in a.shifted_graphics o ≡ y → SaysShifted a o (mark_or_graphic x y)
-  coded_shifted (Char m) y ex ey = char_cell a.shifted_marks o m ex
-  coded_shifted Nothing (Char c) ex ey = char_cell a.shifted_graphics o c ey
-  coded_shifted Nothing Nothing ex ey = inl refl
+  coded_shifted : (x y : Option ℕ) → char_in a.shifted_marks o ≡ x → char_in a.shifted_graphics o ≡ y → SaysShifted a o (mark_or_graphic x y)
+  coded_shifted (Some m) y ex ey = char_cell a.shifted_marks o m ex
+  coded_shifted None (Some c) ex ey = char_cell a.shifted_graphics o c ey
+  coded_shifted None None ex ey = inl refl
 
   pub says : Says a o (sort_by a o)
   says =

@@ -11,12 +11,11 @@ use borrow.Author.Tests.{eq-eqb, ne_eqb}
 use Rattle.run.specs.Choice.{pick}
 use Rattle.run.proofs.Range.{within, Rest, single}
 use Rattle.run.proofs.Search.{found_alike}
-use Rattle.sorts.specs.declared.Octet.{Octet}
-use Rattle.sorts.specs.declared.Octet.TheVariants.{Is, Absent}
+use Rattle.std.specs.Prelude.{Option, Some, None}
 use Rattle.sorts.specs.declared.Sort.TheVariants.{Refused}
-use Rattle.sorts.specs.Cells.{meaning, octet_in}
+use Rattle.sorts.specs.Cells.{meaning, octet_in, number}
 use Rattle.sorts.specs.Tables.{supplementary}
-use Rattle.sorts.specs.Sorts.{entry, upper_at, spacing_of, page_of, octet_number, spacing_page}
+use Rattle.sorts.specs.Sorts.{entry, upper_at, spacing_of, page_of, spacing_page}
 use Rattle.sorts.proofs.Tests.{Alike}
 use Rattle.sorts.proofs.Lookups.{is_octet}
 use Rattle.sorts.proofs.TablePages.{in_page, empty_page}
@@ -46,14 +45,14 @@ pages_test = refl
 
 pub no_spacing_page : (page : ℕ) → Rest spacing_pages page → page_of (λ c. 0) page ≡ spacing_page page
 unfolding spacing_page
-no_spacing_page = empty_page meaning is_octet Absent octet_number supplementary spacing_pages pages_test refl
+no_spacing_page = empty_page meaning is_octet None number supplementary spacing_pages pages_test refl
 
 -- what `find_spacing` makes of an entry
-abbrev as_octet : ℕ → Octet
-as_octet x = pick (eqb x 0) Absent (Is x)
+abbrev as_octet : ℕ → Option ℕ
+as_octet x = pick (eqb x 0) None (Some x)
 
 -- the test: each octet is what is made of its number
-octet_test : Alike (λ cell. as_octet (octet_number (is_octet cell))) is_octet supplementary
+octet_test : Alike (λ cell. as_octet (number (is_octet cell))) is_octet supplementary
 unfolding supplementary
 octet_test = refl
 
@@ -62,11 +61,11 @@ module _ (c : ℕ) (page : List ℕ) (ep : page ≡ spacing_page (c / 32)) where
   here : as_octet (get_or page (c % 32) 0) ≡ octet_in supplementary c
   unfolding spacing_page
   here =
-      ap as_octet (ap (λ (l : List ℕ). get_or l (c % 32) 0) ep ∙ in_page (λ k. octet_number (octet_in supplementary k)) c)
-      ∙ found_alike meaning is_octet Absent (λ x. as_octet (octet_number x)) (λ x. x) supplementary refl octet_test c
+      ap as_octet (ap (λ (l : List ℕ). get_or l (c % 32) 0) ep ∙ in_page (λ k. number (octet_in supplementary k)) c)
+      ∙ found_alike meaning is_octet None (λ x. as_octet (number x)) (λ x. x) supplementary refl octet_test c
 
-  pub no_spacing : get_or page (c % 32) 0 ≡ 0 → Absent ≡ octet_in supplementary c
+  pub no_spacing : get_or page (c % 32) 0 ≡ 0 → None ≡ octet_in supplementary c
   no_spacing e = sym (sym here ∙ simp (eq-eqb (get_or page (c % 32) 0) 0 e))
 
-  pub spacing_there : (get_or page (c % 32) 0 ≡ 0 → ⊥) → Is (get_or page (c % 32) 0) ≡ octet_in supplementary c
+  pub spacing_there : (get_or page (c % 32) 0 ≡ 0 → ⊥) → Some (get_or page (c % 32) 0) ≡ octet_in supplementary c
   spacing_there n = sym (sym here ∙ simp (ne_eqb (get_or page (c % 32) 0) 0 n))

@@ -1,11 +1,7 @@
 -- To be believed: a table of document 01, what stands before what, in order. Looked up from either side. Last, a part of the code.
 -- Assumes nothing.
-use Rattle.std.specs.Prelude.{ℕ, ◌-◌, List, [], ◌∷◌}
+use Rattle.std.specs.Prelude.{ℕ, ◌-◌, List, [], ◌∷◌, Option, Some, None}
 use Rattle.run.specs.Choice.{pick, within, one_of, first_by}
-use Rattle.sorts.specs.declared.Found.{Found}
-use Rattle.sorts.specs.declared.Found.TheVariants.{Char, Nothing}
-use Rattle.sorts.specs.declared.Octet.{Octet}
-use Rattle.sorts.specs.declared.Octet.TheVariants.{Is, Absent}
 
 infix 70 ◌is◌
 -- an octet (or a follower), and what it is
@@ -19,17 +15,17 @@ abbrev pub meaning : Cell → ℕ
 meaning (o is c) = c
 
 -- what an octet is
-abbrev pub char_in : List Cell → ℕ → Found
-char_in = first_by octet (λ cell. Char (meaning cell)) Nothing
+abbrev pub char_in : List Cell → ℕ → Option ℕ
+char_in = first_by octet (λ cell. Some (meaning cell)) None
 
 -- the first octet that is c
-abbrev pub octet_in : List Cell → ℕ → Octet
-octet_in = first_by meaning (λ cell. Is (octet cell)) Absent
+abbrev pub octet_in : List Cell → ℕ → Option ℕ
+octet_in = first_by meaning (λ cell. Some (octet cell)) None
 
 -- 01's values of each answer to that: the octet, where there is one. It has no number for either: nothing is refused by it
-abbrev pub octet_values : Octet → List ℕ
-octet_values (Is o) = o ∷ []
-octet_values Absent = []
+abbrev pub octet_values : Option ℕ → List ℕ
+octet_values (Some o) = o ∷ []
+octet_values None = []
 
 -- the cells but those of some octets
 abbrev pub without : List ℕ → List Cell → List Cell
@@ -49,6 +45,6 @@ low (o is c ∷ cs) = (o - 0x80) is c ∷ low cs
 -- ---- part of the code
 
 -- what is found, as an entry of a table in the code: 0 where there is none
-abbrev pub number : Found → ℕ
-number (Char c) = c
-number Nothing = 0
+abbrev pub number : Option ℕ → ℕ
+number (Some c) = c
+number None = 0

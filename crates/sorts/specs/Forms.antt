@@ -1,11 +1,9 @@
 -- To be believed: the forms' numbers, and what document 01 says of each form, one record a form.
 -- Assumes nothing.
-use Rattle.std.specs.Prelude.{ℕ, ◌≤◌, List, [], ◌∷◌, ◌++◌}
+use Rattle.std.specs.Prelude.{ℕ, ◌≤◌, List, [], ◌∷◌, ◌++◌, Option, Some, None}
 use Rattle.run.specs.Choice.{first_by}
 use Rattle.sorts.specs.declared.Form.{Form}
 use Rattle.sorts.specs.declared.Form.TheVariants.{Eight, Seven, Basic}
-use Rattle.sorts.specs.declared.FormFound.{FormFound}
-use Rattle.sorts.specs.declared.FormFound.TheVariants.{Is, Nothing}
 use Rattle.sorts.specs.Cells.{Cell, ◌is◌, low}
 use Rattle.sorts.specs.Tables.{Row, row, letters, primary, primary_3, supplementary, supplementary_3}
 
@@ -25,8 +23,8 @@ abbrev pub forms : List NamedForm
 forms = 1 names Eight ∷ 2 names Seven ∷ 3 names Basic ∷ []
 
 -- the form of a number
-abbrev pub form_of : ℕ → FormFound
-form_of = first_by number_of (λ e. Is (form_in e)) Nothing forms
+abbrev pub form_of : ℕ → Option Form
+form_of = first_by number_of (λ e. Some (form_in e)) None forms
 
 -- a form's number: 1 to 3
 abbrev pub last_form : ℕ
@@ -40,14 +38,14 @@ abbrev pub NoForm : ℕ → Type 0
 NoForm n = IsForm n → ⊥
 
 -- 01's number of each answer to that: 11 where there is no such form
-abbrev pub form_number : FormFound → ℕ
-form_number (Is f) = 0
-form_number Nothing = 11
+abbrev pub form_number : Option Form → ℕ
+form_number (Some f) = 0
+form_number None = 11
 
 -- by that answer: x where there is no such form
-abbrev pub in_form : {A : Type 0} → FormFound → A → (Form → A) → A
-in_form (Is f) x k = k f
-in_form Nothing x k = x
+abbrev pub in_form : {A : Type 0} → Option Form → A → (Form → A) → A
+in_form (Some f) x k = k f
+in_form None x k = x
 
 -- "SS2 (19)", single shift two
 abbrev pub SS2 : ℕ

@@ -2,15 +2,11 @@
 -- of a form (`sort_in`, `shifted_in` and what they are made of). To be believed: `sort_number`, `start_number`, `after_shift_number` and the
 -- lists and the test that they ask (`too_high`, `beginnings`, `coded_after_shift`). Behind them, a law's word and parts of the code.
 -- Assumes nothing.
-use Rattle.std.specs.Prelude.{ℕ, ◌+◌, ◌*◌, ◌≡◌, ◌⊎◌, Bool, false, List, ◌++◌, map, eqb, leb}
+use Rattle.std.specs.Prelude.{ℕ, ◌+◌, ◌*◌, ◌≡◌, ◌⊎◌, Bool, false, List, ◌++◌, map, eqb, leb, Option, Some, None}
 use Rattle.run.specs.Choice.{pick, one_of}
 use Rattle.sorts.specs.declared.Form.{Form}
 use Rattle.sorts.specs.declared.Sort.{Sort}
 use Rattle.sorts.specs.declared.Sort.TheVariants.{Graphic, Mark, Underline, Shift, Control, SequenceStart, Refused}
-use Rattle.sorts.specs.declared.Found.{Found}
-use Rattle.sorts.specs.declared.Found.TheVariants.{Char, Nothing}
-use Rattle.sorts.specs.declared.Octet.{Octet}
-use Rattle.sorts.specs.declared.Octet.TheVariants.{Is, Absent}
 use Rattle.sorts.specs.Cells.{octet, char_in, octet_in, number}
 use Rattle.sorts.specs.Tables.{consecutive, supplementary}
 use Rattle.sorts.specs.Forms.{Alphabet, alphabet_of}
@@ -33,16 +29,16 @@ too_high a o = pick (eqb a.bits 7) (leb 0x80 o) false
 
 -- ---- proved equal to 01's lists
 
-abbrev pub mark_or : Found → Sort → Sort
-mark_or (Char m) other = Mark m
-mark_or Nothing other = other
+abbrev pub mark_or : Option ℕ → Sort → Sort
+mark_or (Some m) other = Mark m
+mark_or None other = other
 
-abbrev pub graphic_or : Found → Sort → Sort
-graphic_or (Char c) other = Graphic c
-graphic_or Nothing other = other
+abbrev pub graphic_or : Option ℕ → Sort → Sort
+graphic_or (Some c) other = Graphic c
+graphic_or None other = other
 
 -- a mark, a spacing character, or number 1: "the octet begins nothing in the form"
-abbrev pub mark_or_graphic : Found → Found → Sort
+abbrev pub mark_or_graphic : Option ℕ → Option ℕ → Sort
 mark_or_graphic mark graphic = mark_or mark (graphic_or graphic (Refused 1))
 
 -- the sort of an octet that an element begins with; "at one octet 5 goes first"
@@ -124,12 +120,7 @@ spacing_of o = graphic_or (char_in supplementary o) (Refused 1)
 abbrev pub page_of : (ℕ → ℕ) → ℕ → List ℕ
 page_of f page = map f (consecutive (page * 32) 32)
 
--- an octet as an entry of a table: 0 where there is none
-abbrev pub octet_number : Octet → ℕ
-octet_number (Is o) = o
-octet_number Absent = 0
-
 -- the supplementary octets of a page's characters
 unfoldable pub spacing_page : ℕ → List ℕ
 unfolding supplementary
-spacing_page = page_of (λ c. octet_number (octet_in supplementary c))
+spacing_page = page_of (λ c. number (octet_in supplementary c))

@@ -5,11 +5,11 @@ mod pages;
 mod supplementary;
 
 ghost use Rattle.std.specs.Prelude.{◌≡◌};
-ghost use Rattle.sorts.specs.Promises.{FormOfPromise, WidePromise, SortInPromise, SortShiftedPromise, FindSpacingPromise};
+ghost use Rattle.sorts.specs.Promises.{FormOfPromise, SortInPromise, SortShiftedPromise, FindSpacingPromise};
 ghost use Rattle.sorts.specs.Sorts.{sort_in, shifted_in, entry, upper_at, spacing_of, spacing_page};
 
 // The forms of text: T51String in eight bits and in seven, basic T.61.
-#[derive(Clone, Copy)]
+#[derive(Clone, Copy, Debug, PartialEq, Eq)]
 pub enum Form {
     Eight,
     Seven,
@@ -24,15 +24,12 @@ pub const CC: u8 = 0xCC;
 
 pub const CSI: u8 = 0x9B;
 
-// The form of a number.
-#[derive(Clone, Copy)]
-pub enum FormFound {
-    Is(Form),
-    Nothing,
-}
+// A number that is no form's. 01: 11, "form not 1 to 3".
+#[derive(Clone, Copy, Debug, PartialEq, Eq)]
+pub struct UnknownForm;
 
 // What an octet begins.
-#[derive(Clone, Copy)]
+#[derive(Clone, Copy, Debug, PartialEq, Eq)]
 pub enum Sort {
     // a spacing character
     Graphic(u32),
@@ -47,37 +44,20 @@ pub enum Sort {
     Refused(usize),
 }
 
-// The character of an octet, or of a mark and its follower.
-#[derive(Clone, Copy)]
-pub enum Found {
-    Char(u32),
-    Nothing,
-}
+// The form of a number.
+impl TryFrom<u32> for Form {
+    type Error = UnknownForm;
 
-// The octet of a character.
-#[derive(Clone, Copy)]
-pub enum Octet {
-    Is(u8),
-    Absent,
-}
+    ghost try_from_gives = { FormOfPromise };
 
-// 01: 11, "form not 1 to 3".
-pub fn form_of(number: u32) -> FormFound
-    ensures { FormOfPromise number result }
-{
-    match number {
-        1 => FormFound::Is(Form::Eight),
-        2 => FormFound::Is(Form::Seven),
-        3 => FormFound::Is(Form::Basic),
-        _ => FormFound::Nothing,
+    fn try_from(number: u32) -> Result<Form, UnknownForm> {
+        match number {
+            1 => Ok(Form::Eight),
+            2 => Ok(Form::Seven),
+            3 => Ok(Form::Basic),
+            _ => Err(UnknownForm),
+        }
     }
-}
-
-// An entry of a table as a character. Tables hold sixteen bits, as a look-up in a constant copies the whole of it.
-pub fn wide(x: u16) -> u32
-    ensures { WidePromise x result }
-{
-    x as u32
 }
 
 // An entry of a table of characters, of which 0 is none.
@@ -97,7 +77,7 @@ fn upper_at(i: usize) -> u32
     if 96 <= i {
         return 0;
     }
-    wide(supplementary::SUPPLEMENTARY[i])
+    u32::from(supplementary::SUPPLEMENTARY[i])
 }
 
 // The spacing character of a supplementary octet.
@@ -203,36 +183,35 @@ pub fn sort_shifted(form: Form, octet: u8) -> Sort
     }
 }
 
-// The supplementary octets of the 32 characters from 32 times a page's number on: 0 where there is none. The pages are small, as a look-up
-// in a constant copies the whole of it.
-fn spacing_page(page: u32) -> [u8; 32]
-    ensures { result ≡ spacing_page page }
+// The supplementary octets of the 32 characters from 32 times a page's number on: 0 where there is none.
+fn spacing_page(page: u32) -> &'static [u8; 32]
+    ensures { result.now ≡ spacing_page page }
 {
     match page {
-        0x005 => pages::FROM_00A0,
-        0x006 => pages::FROM_00C0,
-        0x007 => pages::FROM_00E0,
-        0x008 => pages::FROM_0100,
-        0x009 => pages::FROM_0120,
-        0x00A => pages::FROM_0140,
-        0x00B => pages::FROM_0160,
-        0x100 => pages::FROM_2000,
-        0x109 => pages::FROM_2120,
-        0x10A => pages::FROM_2140,
-        0x10C => pages::FROM_2180,
-        0x133 => pages::FROM_2660,
-        _ => [0; 32],
+        0x005 => &pages::FROM_00A0,
+        0x006 => &pages::FROM_00C0,
+        0x007 => &pages::FROM_00E0,
+        0x008 => &pages::FROM_0100,
+        0x009 => &pages::FROM_0120,
+        0x00A => &pages::FROM_0140,
+        0x00B => &pages::FROM_0160,
+        0x100 => &pages::FROM_2000,
+        0x109 => &pages::FROM_2120,
+        0x10A => &pages::FROM_2140,
+        0x10C => &pages::FROM_2180,
+        0x133 => &pages::FROM_2660,
+        _ => &[0; 32],
     }
 }
 
 // The supplementary octet of a character, looked up in its page.
-pub fn find_spacing(c: u32) -> Octet
+pub fn find_spacing(c: u32) -> Option<u8>
     ensures { FindSpacingPromise c result }
 {
     let page = spacing_page(c / 32);
     let octet = page[(c % 32) as usize];
     if octet == 0 {
-        return Octet::Absent;
+        return None;
     }
-    Octet::Is(octet)
+    Some(octet)
 }

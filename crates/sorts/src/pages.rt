@@ -1,61 +1,61 @@
 // The octet of A0 to FF of each character in forms 1 and 2; 0 is none. Pages of 32, named by their first character.
 
-pub const FROM_00A0: [u8; 32] = [
+pub static FROM_00A0: [u8; 32] = [
     0xA0, 0xA1, 0xA2, 0xA3, 0xA8, 0xA5, 0xD7, 0xA7, 0, 0xD3, 0xE3, 0xAB, 0xD6, 0xFF, 0xD2, 0, 0xB0,
     0xB1, 0xB2, 0xB3, 0, 0xB5, 0xB6, 0xB7, 0, 0xD1, 0xEB, 0xBB, 0xBC, 0xBD, 0xBE, 0xBF,
 ];
 
-pub const FROM_00C0: [u8; 32] = [
+pub static FROM_00C0: [u8; 32] = [
     0, 0, 0, 0, 0, 0, 0xE1, 0, 0, 0, 0, 0, 0, 0, 0, 0, 0, 0, 0, 0, 0, 0, 0, 0xB4, 0xE9, 0, 0, 0, 0,
     0, 0xEC, 0xFB,
 ];
 
-pub const FROM_00E0: [u8; 32] = [
+pub static FROM_00E0: [u8; 32] = [
     0, 0, 0, 0, 0, 0, 0xF1, 0, 0, 0, 0, 0, 0, 0, 0, 0, 0xF3, 0, 0, 0, 0, 0, 0, 0xB8, 0xF9, 0, 0, 0,
     0, 0, 0xFC, 0,
 ];
 
-pub const FROM_0100: [u8; 32] = [
+pub static FROM_0100: [u8; 32] = [
     0, 0, 0, 0, 0, 0, 0, 0, 0, 0, 0, 0, 0, 0, 0, 0, 0xE2, 0xF2, 0, 0, 0, 0, 0, 0, 0, 0, 0, 0, 0, 0,
     0, 0,
 ];
 
-pub const FROM_0120: [u8; 32] = [
+pub static FROM_0120: [u8; 32] = [
     0, 0, 0, 0, 0, 0, 0xE4, 0xF4, 0, 0, 0, 0, 0, 0, 0, 0, 0, 0xF5, 0xE6, 0xF6, 0, 0, 0, 0, 0xF0, 0,
     0, 0, 0, 0, 0, 0xE7,
 ];
 
-pub const FROM_0140: [u8; 32] = [
+pub static FROM_0140: [u8; 32] = [
     0xF7, 0xE8, 0xF8, 0, 0, 0, 0, 0, 0, 0xEF, 0xEE, 0xFE, 0, 0, 0, 0, 0, 0, 0xEA, 0xFA, 0, 0, 0, 0,
     0, 0, 0, 0, 0, 0, 0, 0,
 ];
 
-pub const FROM_0160: [u8; 32] = [
+pub static FROM_0160: [u8; 32] = [
     0, 0, 0, 0, 0, 0, 0xED, 0xFD, 0, 0, 0, 0, 0, 0, 0, 0, 0, 0, 0, 0, 0, 0, 0, 0, 0, 0, 0, 0, 0, 0,
     0, 0,
 ];
 
-pub const FROM_2000: [u8; 32] = [
+pub static FROM_2000: [u8; 32] = [
     0, 0, 0, 0, 0, 0, 0, 0, 0, 0, 0, 0, 0, 0, 0, 0, 0, 0, 0, 0, 0, 0xD0, 0, 0, 0xA9, 0xB9, 0, 0,
     0xAA, 0xBA, 0, 0,
 ];
 
-pub const FROM_2120: [u8; 32] = [
+pub static FROM_2120: [u8; 32] = [
     0, 0, 0xD4, 0, 0, 0, 0xE0, 0, 0, 0, 0, 0, 0, 0, 0, 0, 0, 0, 0, 0, 0, 0, 0, 0, 0, 0, 0, 0, 0, 0,
     0, 0,
 ];
 
-pub const FROM_2140: [u8; 32] = [
+pub static FROM_2140: [u8; 32] = [
     0, 0, 0, 0, 0, 0, 0, 0, 0, 0, 0, 0, 0, 0, 0, 0, 0, 0, 0, 0, 0, 0, 0, 0, 0, 0, 0, 0xDC, 0xDD,
     0xDE, 0xDF, 0,
 ];
 
-pub const FROM_2180: [u8; 32] = [
+pub static FROM_2180: [u8; 32] = [
     0, 0, 0, 0, 0, 0, 0, 0, 0, 0, 0, 0, 0, 0, 0, 0, 0xAC, 0xAD, 0xAE, 0xAF, 0, 0, 0, 0, 0, 0, 0, 0,
     0, 0, 0, 0,
 ];
 
-pub const FROM_2660: [u8; 32] = [
+pub static FROM_2660: [u8; 32] = [
     0, 0, 0, 0, 0, 0, 0, 0, 0, 0, 0xD5, 0, 0, 0, 0, 0, 0, 0, 0, 0, 0, 0, 0, 0, 0, 0, 0, 0, 0, 0, 0,
     0,
 ];

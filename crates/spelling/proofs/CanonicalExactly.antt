@@ -6,19 +6,16 @@ use mathlib.Core.Path.{◌≡◌, refl, sym, ap, ◌∙◌, subst}
 use mathlib.Core.List.{List, ◌++◌, Memᴰ}
 use mathlib.Core.Logic.{◌↔◌}
 use native.Mathlib.Omega.{arith}
+use Rattle.std.proofs.lemmas.Option.{none-some}
 use Rattle.run.proofs.Members.{at_member}
 use Rattle.run.proofs.Search.{found_first}
 use Rattle.sorts.specs.declared.Form.{Form}
 use Rattle.sorts.specs.declared.Form.TheVariants.{Eight, Seven, Basic}
 use Rattle.sorts.specs.declared.Sort.{Sort}
 use Rattle.sorts.specs.declared.Sort.TheVariants.{Graphic, Mark, Shift}
-use Rattle.sorts.specs.declared.Found.TheVariants.{Char}
-use Rattle.sorts.specs.declared.Octet.{Octet}
-use Rattle.sorts.specs.declared.Octet.TheVariants.{Is, Absent}
-use Rattle.squares.specs.declared.Pairing.{Pairing}
-use Rattle.squares.specs.declared.Pairing.TheVariants.{Of, Nowhere}
+use Rattle.std.specs.Prelude.{Some, Option, None}
 use Rattle.spelling.specs.declared.Spelling.{Spelling}
-use Rattle.spelling.specs.declared.Spelling.TheVariants.{One, Shifted, Pair, ShiftedPair, Unspelt}
+use Rattle.spelling.specs.declared.Spelling.TheVariants.{One, Shifted, Pair, ShiftedPair}
 use Rattle.sorts.specs.Cells.{Cell, ◌is◌, octet, meaning, octet_in}
 use Rattle.squares.specs.Squares.{square_of, pair_of}
 use Rattle.sorts.specs.Forms.{Alphabet, alphabet_of, SS2}
@@ -26,7 +23,7 @@ use Rattle.sorts.specs.Sorts.{sort_by, shifted_by, sort_in, shifted_in}
 use Rattle.spelling.specs.CanonicalSpelling.{Codes, NoOctet, IsThat, Chosen, Canonical}
 use Rattle.spelling.specs.SpellingGiven.{one_or, shifted_or, pair_or, shifted_pair_or, pair_by, octet_by, spell_in}
 use Rattle.sorts.proofs.Tests.{Alike}
-use Rattle.sorts.proofs.Lookups.{is_octet, absent_is, octet_cell}
+use Rattle.sorts.proofs.Lookups.{is_octet, octet_cell}
 use Rattle.sorts.proofs.Sorted.{sort_says, shifted_says}
 use Rattle.squares.proofs.TableRule.{inverse, forward}
 
@@ -40,36 +37,36 @@ abbrev bare : Alphabet → List Cell
 bare a = a.writes ++ a.graphics
 
 -- the octet that is written, where one is named, else this one
-abbrev chosen_or : Octet → ℕ → Octet
-chosen_or (Is w) o = Is w
-chosen_or Absent o = Is o
+abbrev chosen_or : Option ℕ → ℕ → Option ℕ
+chosen_or (Some w) o = Some w
+chosen_or None o = Some o
 
 -- the octet that is written for a cell's character is the one that the form names, or the cell's own
-abbrev chosen_for : Alphabet → Cell → Octet
+abbrev chosen_for : Alphabet → Cell → Option ℕ
 chosen_for a cell = chosen_or (octet_in a.writes (meaning cell)) (octet cell)
 
 -- a mark: what the octet is, and that this octet is the one for it
 abbrev MarkFact : Type 0
-MarkFact = Sort × Octet
+MarkFact = Sort × Option ℕ
 
 abbrev mark_told : Alphabet → Cell → MarkFact
 mark_told a cell = (sort_by a (octet cell), octet_in a.marks (meaning cell))
 
 abbrev mark_wanted : Cell → MarkFact
-mark_wanted cell = (Mark (meaning cell), Is (octet cell))
+mark_wanted cell = (Mark (meaning cell), Some (octet cell))
 
 -- after SS2: that the form has it, what the octet is, that no bare octet is that, and that this octet is the one for it
 abbrev ShiftFact : Type 0
-ShiftFact = Sort × Sort × Octet × Octet
+ShiftFact = Sort × Sort × Option ℕ × Option ℕ
 
-abbrev shift_told : Alphabet → (ℕ → Octet) → List Cell → Cell → ShiftFact
+abbrev shift_told : Alphabet → (ℕ → Option ℕ) → List Cell → Cell → ShiftFact
 shift_told a by cells cell = (sort_by a SS2, shifted_by a (octet cell), by (meaning cell), octet_in cells (meaning cell))
 
 abbrev shift_wanted : (ℕ → Sort) → Cell → ShiftFact
-shift_wanted sort cell = (Shift, sort (meaning cell), Absent, Is (octet cell))
+shift_wanted sort cell = (Shift, sort (meaning cell), None, Some (octet cell))
 
 -- of cells after SS2, whose sort is `sort`, where `by` looks for a bare octet
-abbrev ShiftTest : Alphabet → (ℕ → Octet) → List Cell → (ℕ → Sort) → Type 0
+abbrev ShiftTest : Alphabet → (ℕ → Option ℕ) → List Cell → (ℕ → Sort) → Type 0
 ShiftTest a by cells sort = Alike (shift_told a by cells) (shift_wanted sort) cells
 
 -- what is tested of an alphabet
@@ -86,13 +83,13 @@ tested Eight = record { sorted = refl; first = refl; mark = refl; after = refl; 
 tested Seven = record { sorted = refl; first = refl; mark = refl; after = refl; mark_after = refl }
 tested Basic = record { sorted = refl; first = refl; mark = refl; after = refl; mark_after = refl }
 
-pub record ShiftedCell (f : Form) (by : ℕ → Octet) (cells : List Cell) (sort : ℕ → Sort) (o c : ℕ) : Type 0 where
+pub record ShiftedCell (f : Form) (by : ℕ → Option ℕ) (cells : List Cell) (sort : ℕ → Sort) (o c : ℕ) : Type 0 where
   pub shifts : sort_in f SS2 ≡ Shift
   pub sorts : shifted_in f o ≡ sort c
-  pub not_bare : by c ≡ Absent
-  pub is_it : octet_in cells c ≡ Is o
+  pub not_bare : by c ≡ None
+  pub is_it : octet_in cells c ≡ Some o
 
-after_shift : (f : Form) (by : ℕ → Octet) (cells : List Cell) (sort : ℕ → Sort) → ShiftTest (alphabet_of f) by cells sort
+after_shift : (f : Form) (by : ℕ → Option ℕ) (cells : List Cell) (sort : ℕ → Sort) → ShiftTest (alphabet_of f) by cells sort
     → {o c : ℕ} → Memᴰ (o is c) cells → ShiftedCell f by cells sort o c
 unfolding sort_in shifted_in
 after_shift f by cells sort test h =
@@ -103,6 +100,10 @@ after_shift f by cells sort test h =
       not_bare = ap (λ (p : ShiftFact). p.2) e;
       is_it = ap (λ (p : ShiftFact). p.3) e;
     }
+
+-- what is given is one spelling, or none
+same_given : {x y : Spelling} → Some x ≡ Some y → x ≡ y
+same_given e = cc e
 
 module _ (f : Form) where
   -- ---- what the tests say of a cell
@@ -127,7 +128,7 @@ module _ (f : Form) where
 
   pub record MarkCell (o m : ℕ) : Type 0 where
     pub sorts : sort_in f o ≡ Mark m
-    pub is_it : octet_in (A f).marks m ≡ Is o
+    pub is_it : octet_in (A f).marks m ≡ Some o
 
   mark_cell : {o m : ℕ} → Memᴰ (o is m) (A f).marks → MarkCell o m
   unfolding sort_in
@@ -150,48 +151,48 @@ module _ (f : Form) where
   -- ---- what the definition looks up, and what codes
 
   module _ (c : ℕ) where
-    looked_bare : (o : ℕ) → octet_by (A f) c ≡ Is o → Codes f c (One o)
+    looked_bare : (o : ℕ) → octet_by (A f) c ≡ Some o → Codes f c (One o)
     looked_bare o e = Codes.one (bare_sorts (octet_cell (bare (A f)) c o e))
 
-    looked_shifted : (o : ℕ) → octet_in (A f).shifted_graphics c ≡ Is o → Codes f c (Shifted o)
+    looked_shifted : (o : ℕ) → octet_in (A f).shifted_graphics c ≡ Some o → Codes f c (Shifted o)
     looked_shifted o e = let s = shifted_cell (octet_cell (A f).shifted_graphics c o e) in Codes.shifted s.shifts s.sorts
 
-    chosen_is : (x : Octet) (o : ℕ) → chosen_or x o ≡ Absent → ⊥
-    chosen_is (Is w) o e = absent_is (sym e)
-    chosen_is Absent o e = absent_is (sym e)
+    chosen_is : (x : Option ℕ) (o : ℕ) → chosen_or x o ≡ None → ⊥
+    chosen_is (Some w) o e = none-some _ (sym e)
+    chosen_is None o e = none-some _ (sym e)
 
     -- no octet is found exactly when none codes
-    none_codes : octet_by (A f) c ≡ Absent → (o : ℕ) → Codes f c (One o) → ⊥
+    none_codes : octet_by (A f) c ≡ None → (o : ℕ) → Codes f c (One o) → ⊥
     none_codes n o k = chosen_is (octet_in (A f).writes c) o (sym (one_first k) ∙ n)
 
-    none_shifted : octet_in (A f).shifted_graphics c ≡ Absent → (o : ℕ) → Codes f c (Shifted o) → ⊥
-    none_shifted n o k = absent_is (sym n ∙ (shifted_first k).is_it)
+    none_shifted : octet_in (A f).shifted_graphics c ≡ None → (o : ℕ) → Codes f c (Shifted o) → ⊥
+    none_shifted n o k = none-some _ (sym n ∙ (shifted_first k).is_it)
 
-    bare_absent : ((o : ℕ) → Codes f c (One o) → ⊥) → octet_by (A f) c ≡ Absent
+    bare_absent : ((o : ℕ) → Codes f c (One o) → ⊥) → octet_by (A f) c ≡ None
     bare_absent n = go (octet_by (A f) c) refl
       where
-        go : (x : Octet) → octet_by (A f) c ≡ x → x ≡ Absent
-        go Absent e = refl
-        go (Is o) e = absurd (n o (looked_bare o e))
+        go : (x : Option ℕ) → octet_by (A f) c ≡ x → x ≡ None
+        go None e = refl
+        go (Some o) e = absurd (n o (looked_bare o e))
 
-    shifted_absent : ((o : ℕ) → Codes f c (Shifted o) → ⊥) → octet_in (A f).shifted_graphics c ≡ Absent
+    shifted_absent : ((o : ℕ) → Codes f c (Shifted o) → ⊥) → octet_in (A f).shifted_graphics c ≡ None
     shifted_absent n = go (octet_in (A f).shifted_graphics c) refl
       where
-        go : (x : Octet) → octet_in (A f).shifted_graphics c ≡ x → x ≡ Absent
-        go Absent e = refl
-        go (Is o) e = absurd (n o (looked_shifted o e))
+        go : (x : Option ℕ) → octet_in (A f).shifted_graphics c ≡ x → x ≡ None
+        go None e = refl
+        go (Some o) e = absurd (n o (looked_shifted o e))
 
     -- ---- what is canonical is given
 
-    chosen_same : (x : Octet) (o : ℕ) → IsThat x o → chosen_or x o ≡ Is o
-    chosen_same (Is w) o e = ap Is (sym e)
-    chosen_same Absent o e = refl
+    chosen_same : (x : Option ℕ) (o : ℕ) → IsThat x o → chosen_or x o ≡ Some o
+    chosen_same (Some w) o e = ap Some (sym e)
+    chosen_same None o e = refl
 
-    given_pair : (m l : ℕ) → NoOctet f c → square_of m l ≡ Char c → spell_in f c ≡ pair_by (A f) (Of m l)
+    given_pair : (m l : ℕ) → NoOctet f c → square_of m l ≡ Some c → spell_in f c ≡ pair_by (A f) (Some (m, l))
     unfolding spell_in
     given_pair m l n e = rw (bare_absent n.bare, shifted_absent n.shifted, inverse m l c e)
 
-    canonical_given : {x : Spelling} → Canonical f c x → spell_in f c ≡ x
+    canonical_given : {x : Spelling} → Canonical f c x → spell_in f c ≡ Some x
     unfolding spell_in Chosen
     canonical_given (Canonical.one {o} k h) = rw (one_first k, chosen_same (octet_in (A f).writes c) o h)
     canonical_given (Canonical.shifted k n) = let s = shifted_first k in rw (s.not_bare, s.is_it)
@@ -202,52 +203,47 @@ module _ (f : Form) where
 
     -- ---- what is given is canonical
 
-    in_both : (xs ys : List Cell) (w : ℕ) → octet_in xs c ≡ Is w → octet_in (xs ++ ys) c ≡ Is w
-    in_both xs ys w e = found_first meaning is_octet Absent xs ys c (Is w) absent_is e
+    in_both : (xs ys : List Cell) (w : ℕ) → octet_in xs c ≡ Some w → octet_in (xs ++ ys) c ≡ Some w
+    in_both xs ys w e = found_first meaning is_octet None xs ys c (Some w) (none-some _) e
 
-    given_chosen : (o : ℕ) → octet_by (A f) c ≡ Is o → (x : Octet) → octet_in (A f).writes c ≡ x → IsThat x o
-    given_chosen o e (Is w) q = let z = in_both (A f).writes (A f).graphics w q in cc
-    given_chosen o e Absent q = tt
+    given_chosen : (o : ℕ) → octet_by (A f) c ≡ Some o → (x : Option ℕ) → octet_in (A f).writes c ≡ x → IsThat x o
+    given_chosen o e (Some w) q = let z = in_both (A f).writes (A f).graphics w q in cc
+    given_chosen o e None q = tt
 
     -- what a look-up that was not refused gave
-    by_mark : (m l : ℕ) {x : Spelling} → (x ≡ Unspelt → ⊥) → NoOctet f c → square_of m l ≡ Char c → (y z : Octet) → octet_in (A f).marks m
-        ≡ y → octet_in (A f).shifted_marks m ≡ z → pair_or y l (shifted_pair_or z l Unspelt) ≡ x → Canonical f c x
-    by_mark m l u n q (Is o) z ey ez e =
-        subst (Canonical f c) e (Canonical.pair (Codes.pair (mark_cell (octet_cell (A f).marks m o ey)).sorts q) n)
-    by_mark m l u n q Absent (Is o) ey ez e =
+    by_mark : (m l : ℕ) {x : Spelling} → NoOctet f c → square_of m l ≡ Some c → (y z : Option ℕ) → octet_in (A f).marks m ≡ y
+        → octet_in (A f).shifted_marks m ≡ z → pair_or y l (shifted_pair_or z l None) ≡ Some x → Canonical f c x
+    by_mark m l n q (Some o) z ey ez e =
+        subst (Canonical f c) (same_given e) (Canonical.pair (Codes.pair (mark_cell (octet_cell (A f).marks m o ey)).sorts q) n)
+    by_mark m l n q None (Some o) ey ez e =
         let k = shifted_mark (octet_cell (A f).shifted_marks m o ez) in
-        subst (Canonical f c) e (Canonical.shifted_pair (Codes.shifted_pair k.shifts k.sorts q) n)
-    by_mark m l u n q Absent Absent ey ez e = absurd (u (sym e))
+        subst (Canonical f c) (same_given e) (Canonical.shifted_pair (Codes.shifted_pair k.shifts k.sorts q) n)
+    by_mark m l n q None None ey ez e = absurd (none-some _ e)
 
-    by_pair : (p : Pairing) {x : Spelling} → (x ≡ Unspelt → ⊥) → NoOctet f c → pair_of c ≡ p → pair_by (A f) p ≡ x → Canonical f c x
-    by_pair (Of m l) u n q e = by_mark m l u n (forward m l c q) (octet_in (A f).marks m) (octet_in (A f).shifted_marks m) refl refl e
-    by_pair Nowhere u n q e = absurd (u (sym e))
+    by_pair : (p : Option (ℕ × ℕ)) {x : Spelling} → NoOctet f c → pair_of c ≡ p → pair_by (A f) p ≡ Some x → Canonical f c x
+    by_pair (Some (m, l)) n q e = by_mark m l n (forward m l c q) (octet_in (A f).marks m) (octet_in (A f).shifted_marks m) refl refl e
+    by_pair None n q e = absurd (none-some _ e)
 
-    by_octets : (y z : Octet) {x : Spelling} → (x ≡ Unspelt → ⊥) → octet_by (A f) c ≡ y → octet_in (A f).shifted_graphics c ≡ z
-        → one_or y (shifted_or z (pair_by (A f) (pair_of c))) ≡ x → Canonical f c x
+    by_octets : (y z : Option ℕ) {x : Spelling} → octet_by (A f) c ≡ y → octet_in (A f).shifted_graphics c ≡ z
+        → one_or y (shifted_or z (pair_by (A f) (pair_of c))) ≡ Some x → Canonical f c x
     unfolding Chosen
-    by_octets (Is o) z u ey ez e =
-        subst (Canonical f c) e (Canonical.one (looked_bare o ey) (given_chosen o ey (octet_in (A f).writes c) refl))
-    by_octets Absent (Is o) u ey ez e = subst (Canonical f c) e (Canonical.shifted (looked_shifted o ez) (none_codes ey))
-    by_octets Absent Absent u ey ez e = by_pair (pair_of c) u (record { bare = none_codes ey; shifted = none_shifted ez }) refl e
+    by_octets (Some o) z ey ez e =
+        subst (Canonical f c) (same_given e) (Canonical.one (looked_bare o ey) (given_chosen o ey (octet_in (A f).writes c) refl))
+    by_octets None (Some o) ey ez e =
+        subst (Canonical f c) (same_given e) (Canonical.shifted (looked_shifted o ez) (none_codes ey))
+    by_octets None None ey ez e = by_pair (pair_of c) (record { bare = none_codes ey; shifted = none_shifted ez }) refl e
 
-    given_canonical : {x : Spelling} → (x ≡ Unspelt → ⊥) → spell_in f c ≡ x → Canonical f c x
+    given_canonical : {x : Spelling} → spell_in f c ≡ Some x → Canonical f c x
     unfolding spell_in
-    given_canonical u e = by_octets (octet_by (A f) c) (octet_in (A f).shifted_graphics c) u refl refl e
-
-    canonical_spelt : {x : Spelling} → Canonical f c x → x ≡ Unspelt → ⊥
-    canonical_spelt (Canonical.one k h) e = let w : ◌≡◌ {A = ℕ} 0 1 = cc in omega arith
-    canonical_spelt (Canonical.shifted k n) e = let w : ◌≡◌ {A = ℕ} 0 1 = cc in omega arith
-    canonical_spelt (Canonical.pair k n) e = let w : ◌≡◌ {A = ℕ} 0 1 = cc in omega arith
-    canonical_spelt (Canonical.shifted_pair k n) e = let w : ◌≡◌ {A = ℕ} 0 1 = cc in omega arith
+    given_canonical e = by_octets (octet_by (A f) c) (octet_in (A f).shifted_graphics c) refl refl e
 
     -- The definition gives exactly the canonical spelling.
-    pub exactly : (x : Spelling) → Canonical f c x ↔ ((spell_in f c ≡ x) × (x ≡ Unspelt → ⊥))
-    exactly x = (λ k. (canonical_given k, canonical_spelt k), λ h. given_canonical h.1 h.0)
+    pub exactly : (x : Spelling) → Canonical f c x ↔ (spell_in f c ≡ Some x)
+    exactly x = (canonical_given, given_canonical)
 
     -- There is one.
     pub one_canonical : {x y : Spelling} → Canonical f c x → Canonical f c y → x ≡ y
-    one_canonical k h = sym (canonical_given k) ∙ canonical_given h
+    one_canonical k h = same_given (sym (canonical_given k) ∙ canonical_given h)
 
     -- It reads back to its character.
     pub reads_back : {x : Spelling} → Canonical f c x → Codes f c x
@@ -258,38 +254,42 @@ module _ (f : Form) where
 
     -- where no spelling is given, nothing was found
     record NothingFound : Type 0 where
-      pub no_bare : octet_by (A f) c ≡ Absent
-      pub no_shifted : octet_in (A f).shifted_graphics c ≡ Absent
-      pub no_pair : pair_by (A f) (pair_of c) ≡ Unspelt
+      pub no_bare : octet_by (A f) c ≡ None
+      pub no_shifted : octet_in (A f).shifted_graphics c ≡ None
+      pub no_pair : pair_by (A f) (pair_of c) ≡ None
 
-    nothing_by : (y z : Octet) → octet_by (A f) c ≡ y → octet_in (A f).shifted_graphics c ≡ z
-        → one_or y (shifted_or z (pair_by (A f) (pair_of c))) ≡ Unspelt → NothingFound
-    nothing_by (Is o) z ey ez e = let w : ◌≡◌ {A = ℕ} 0 1 = cc in absurd (omega arith)
-    nothing_by Absent (Is o) ey ez e = let w : ◌≡◌ {A = ℕ} 0 1 = cc in absurd (omega arith)
-    nothing_by Absent Absent ey ez e = record { no_bare = ey; no_shifted = ez; no_pair = e }
+    nothing_by : (y z : Option ℕ) → octet_by (A f) c ≡ y → octet_in (A f).shifted_graphics c ≡ z
+        → one_or y (shifted_or z (pair_by (A f) (pair_of c))) ≡ None → NothingFound
+    nothing_by (Some o) z ey ez e = let w : ◌≡◌ {A = ℕ} 0 1 = cc in absurd (omega arith)
+    nothing_by None (Some o) ey ez e = let w : ◌≡◌ {A = ℕ} 0 1 = cc in absurd (omega arith)
+    nothing_by None None ey ez e = record { no_bare = ey; no_shifted = ez; no_pair = e }
 
     -- what codes c, in any way, has a spelling
     codes_unspelt : {y : Spelling} → Codes f c y → NothingFound → ⊥
     codes_unspelt (Codes.one {o} e) n = none_codes n.no_bare o (Codes.one e)
     codes_unspelt (Codes.shifted {o} s e) n = none_shifted n.no_shifted o (Codes.shifted s e)
     codes_unspelt (Codes.pair {o} {m} {l} e q) n =
-        let k : pair_by (A f) (pair_of c) ≡ Pair o l = rw (inverse m l c q, (mark_first o m e).is_it) in
+        let k : pair_by (A f) (pair_of c) ≡ Some (Pair o l) = rw (inverse m l c q, (mark_first o m e).is_it) in
         let w : ◌≡◌ {A = ℕ} 0 1 = cc n.no_pair in
         omega arith
     codes_unspelt (Codes.shifted_pair {o} {m} {l} s e q) n =
         let h = shifted_mark_first o m e in
-        let k : pair_by (A f) (pair_of c) ≡ ShiftedPair o l = rw (inverse m l c q, h.not_bare, h.is_it) in
+        let k : pair_by (A f) (pair_of c) ≡ Some (ShiftedPair o l) = rw (inverse m l c q, h.not_bare, h.is_it) in
         let w : ◌≡◌ {A = ℕ} 0 1 = cc n.no_pair in
         omega arith
 
-    codes_spelt : {y : Spelling} → Codes f c y → spell_in f c ≡ Unspelt → ⊥
+    codes_spelt : {y : Spelling} → Codes f c y → spell_in f c ≡ None → ⊥
     unfolding spell_in
     codes_spelt k e = codes_unspelt k (nothing_by (octet_by (A f) c) (octet_in (A f).shifted_graphics c) refl refl e)
 
     -- A character has a canonical spelling in a form exactly when some octets of that form read to it.
     pub has_canonical : ((x : Spelling) × Canonical f c x) ↔ ((y : Spelling) × Codes f c y)
     has_canonical =
-        (λ h. (h.0, reads_back h.1), λ h. (spell_in f c, given_canonical (codes_spelt h.1) refl))
+        (λ h. (h.0, reads_back h.1), λ h. go h.1 (spell_in f c) refl)
+      where
+        go : {y : Spelling} → Codes f c y → (z : Option Spelling) → spell_in f c ≡ z → (x : Spelling) × Canonical f c x
+        go k (Some x) e = (x, given_canonical e)
+        go k None e = absurd (codes_spelt k e)
 
   -- Octets read to one character at most.
   pub one_character : {c d : ℕ} {x : Spelling} → Codes f c x → Codes f d x → c ≡ d

@@ -8,25 +8,24 @@ use mathlib.Core.Bool.{Bool, true, false}
 use native.Mathlib.Omega.{arith}
 use lib.Dec.{ltb}
 use borrow.Author.Tests.{ltb-true, ltb-false, le-ltb, le-leb, lt-leb}
+use Rattle.std.specs.Option.{is_some}
+use Rattle.std.proofs.lemmas.Option.{none-some}
 use Rattle.run.specs.Choice.{pick}
 use Rattle.run.proofs.Members.{at_member}
 use Rattle.run.proofs.Range.{listed, within}
 use Rattle.sorts.specs.declared.Form.{Form}
 use Rattle.sorts.specs.declared.Form.TheVariants.{Eight, Seven, Basic}
-use Rattle.sorts.specs.declared.Octet.{Octet}
-use Rattle.sorts.specs.declared.Octet.TheVariants.{Is, Absent}
+use Rattle.std.specs.Prelude.{Option, Some, None}
 use Rattle.sorts.specs.Cells.{Cell, octet, meaning, octet_in}
 use Rattle.sorts.specs.Tables.{supplementary}
 use Rattle.sorts.specs.Forms.{alphabet_of}
 use Rattle.sorts.proofs.Tests.{Alike}
-use Rattle.sorts.proofs.Lookups.{absent_is, octet_hit}
-use Rattle.squares.specs.declared.Pairing.{Pairing}
-use Rattle.squares.specs.declared.Pairing.TheVariants.{Of, Nowhere}
+use Rattle.sorts.proofs.Lookups.{octet_hit}
 use Rattle.squares.specs.Squares.{pairing, squares, pair_of}
 use Rattle.squares.proofs.TableRule.{pair_hit}
 use Rattle.spelling.specs.declared.Spelling.{Spelling}
-use Rattle.spelling.specs.declared.Spelling.TheVariants.{One, Unspelt}
-use Rattle.spelling.specs.SpellingGiven.{pair_by, octet_by, spell_in, is_there, primary_octet, itself, spell_spacing, spell_pair}
+use Rattle.spelling.specs.declared.Spelling.TheVariants.{One}
+use Rattle.spelling.specs.SpellingGiven.{pair_by, octet_by, spell_in, primary_octet, itself, spell_spacing, spell_pair}
 
 -- ---- a character that is not supplementary, by an octet of its own
 
@@ -35,21 +34,21 @@ abbrev bare : Form → List Cell
 bare f = (alphabet_of f).writes ++ (alphabet_of f).graphics
 
 abbrev known : ℕ → ℕ → Bool
-known b c = pick (ltb c b) true (is_there (octet_in supplementary c))
+known b c = pick (ltb c b) true (is_some (octet_in supplementary c))
 
 -- each of the form's characters with an octet of its own is below b, or supplementary
 abbrev pub Below : Form → ℕ → Type 0
 Below f b = Alike (λ cell. known b (meaning cell)) (λ cell. true) (bare f)
 
 module _ (f : Form) (b : ℕ) (below : Below f b) where
-  pub none_above : (c : ℕ) → b ≤ c → Absent ≡ primary_octet f c
+  pub none_above : (c : ℕ) → b ≤ c → None ≡ primary_octet f c
   unfolding primary_octet
   none_above c h = go (octet_in supplementary c) refl (octet_by (alphabet_of f) c) refl
     where
-      go : (x : Octet) → octet_in supplementary c ≡ x → (y : Octet) → octet_by (alphabet_of f) c ≡ y → Absent ≡ pick (is_there x) Absent y
-      go (Is o) p y q = refl
-      go Absent p Absent q = refl
-      go Absent p (Is o) q =
+      go : (x : Option ℕ) → octet_in supplementary c ≡ x → (y : Option ℕ) → octet_by (alphabet_of f) c ≡ y → None ≡ pick (is_some x) None y
+      go (Some o) p y q = refl
+      go None p None q = refl
+      go None p (Some o) q =
           let k = octet_hit (bare f) c o q in
           let t : known b c ≡ true = sym (ap (known b) k.has_key)
           ∙ at_member (λ cell. known b (meaning cell)) (λ cell. true) k.member below in
@@ -79,7 +78,7 @@ module _ (f : Form) (below : Below f 0x7F) (ascii : listed itself 0 0x7F ≡ lis
       go true e = within itself (primary_octet f) 0 0x7F ascii c (omega arith) (ltb-true c 0x7F e)
       go false e =
           let h : 0x7F ≤ c = ltb-false c 0x7F e in
-          let n : itself c ≡ Absent = simp (le-leb 0x20 c (omega arith), lt-leb c 0x7E (omega arith)) in
+          let n : itself c ≡ None = simp (le-leb 0x20 c (omega arith), lt-leb c 0x7E (omega arith)) in
           n ∙ none_above f 0x7F below c h
 
 pub itself_eight : (c : ℕ) → itself c ≡ primary_octet Eight c
@@ -90,26 +89,26 @@ pub itself_seven : (c : ℕ) → itself c ≡ primary_octet Seven c
 unfolding primary_octet
 itself_seven = is_itself Seven seven_below refl
 
-primary_known : (f : Form) (c o : ℕ) → primary_octet f c ≡ Is o → octet_by (alphabet_of f) c ≡ Is o
+primary_known : (f : Form) (c o : ℕ) → primary_octet f c ≡ Some o → octet_by (alphabet_of f) c ≡ Some o
 unfolding primary_octet
 primary_known f c o = go (octet_in supplementary c) (octet_by (alphabet_of f) c)
   where
-    go : (x y : Octet) → pick (is_there x) Absent y ≡ Is o → y ≡ Is o
-    go (Is p) y e = absurd (absent_is e)
-    go Absent y e = e
+    go : (x y : Option ℕ) → pick (is_some x) None y ≡ Some o → y ≡ Some o
+    go (Some p) y e = absurd (none-some _ e)
+    go None y e = e
 
-pub spelt_primary : (f : Form) (c o : ℕ) → primary_octet f c ≡ Is o → One o ≡ spell_in f c
+pub spelt_primary : (f : Form) (c o : ℕ) → primary_octet f c ≡ Some o → Some (One o) ≡ spell_in f c
 unfolding spell_in
 spelt_primary f c o e = rw (primary_known f c o e)
 
 -- ---- a supplementary character, or neither
 
 abbrev is_supplementary : ℕ → Bool
-is_supplementary c = is_there (octet_in supplementary c)
+is_supplementary c = is_some (octet_in supplementary c)
 
-abbrev spell_pairing : Form → Pairing → Spelling
-spell_pairing f (Of m l) = spell_pair f m l
-spell_pairing f Nowhere = Unspelt
+abbrev spell_pairing : Form → Option (ℕ × ℕ) → Option Spelling
+spell_pairing f (Some (m, l)) = Some (spell_pair f m l)
+spell_pairing f None = None
 
 -- what is tested of a form: its spelling of each supplementary character and of each pair; an octet after SS2 is a supplementary
 -- character's
@@ -124,7 +123,7 @@ tested Eight = record { spacing = refl; pair = refl; shifted = refl }
 tested Seven = record { spacing = refl; pair = refl; shifted = refl }
 tested Basic = record { spacing = refl; pair = refl; shifted = refl }
 
-pub spelt_spacing : (f : Form) (c o : ℕ) → octet_in supplementary c ≡ Is o → spell_spacing f o ≡ spell_in f c
+pub spelt_spacing : (f : Form) (c o : ℕ) → octet_in supplementary c ≡ Some o → spell_spacing f o ≡ spell_in f c
 spelt_spacing f c o e =
     let h = octet_hit supplementary c o e in
     let eo : octet h.entry ≡ o = cc h.is_given in
@@ -133,25 +132,25 @@ spelt_spacing f c o e =
     ∙ ap (spell_in f) h.has_key
 
 -- neither: the pair
-module _ (f : Form) (c : ℕ) (no-primary : primary_octet f c ≡ Absent) (no_spacing : octet_in supplementary c ≡ Absent) where
-  no_bare : octet_by (alphabet_of f) c ≡ Absent
+module _ (f : Form) (c : ℕ) (no-primary : primary_octet f c ≡ None) (no_spacing : octet_in supplementary c ≡ None) where
+  no_bare : octet_by (alphabet_of f) c ≡ None
   unfolding primary_octet
   no_bare = go (octet_in supplementary c) (octet_by (alphabet_of f) c) no_spacing no-primary
     where
-      go : (x y : Octet) → x ≡ Absent → pick (is_there x) Absent y ≡ Absent → y ≡ Absent
-      go (Is o) y p e = absurd (absent_is (sym p))
-      go Absent y p e = e
+      go : (x y : Option ℕ) → x ≡ None → pick (is_some x) None y ≡ None → y ≡ None
+      go (Some o) y p e = absurd (none-some _ (sym p))
+      go None y p e = e
 
-  no_shifted : octet_in (alphabet_of f).shifted_graphics c ≡ Absent
+  no_shifted : octet_in (alphabet_of f).shifted_graphics c ≡ None
   no_shifted = go (octet_in (alphabet_of f).shifted_graphics c) refl
     where
-      go : (x : Octet) → octet_in (alphabet_of f).shifted_graphics c ≡ x → x ≡ Absent
-      go Absent e = refl
-      go (Is o) e =
+      go : (x : Option ℕ) → octet_in (alphabet_of f).shifted_graphics c ≡ x → x ≡ None
+      go None e = refl
+      go (Some o) e =
           let h = octet_hit (alphabet_of f).shifted_graphics c o e in
           let told = at_member (λ cell. is_supplementary (meaning cell)) (λ cell. true) h.member (tested f).shifted in
           let k : is_supplementary c ≡ true = sym (ap is_supplementary h.has_key) ∙ told in
-          let z : is_supplementary c ≡ false = ap is_there no_spacing in
+          let z : is_supplementary c ≡ false = ap is_some no_spacing in
           let y : ◌≡◌ {A = ℕ} 0 1 = cc in
           absurd (omega arith)
 
@@ -159,10 +158,10 @@ module _ (f : Form) (c : ℕ) (no-primary : primary_octet f c ≡ Absent) (no_sp
   unfolding spell_in
   by_pair = rw (no_bare, no_shifted)
 
-  pub spelt_nowhere : pair_of c ≡ Nowhere → Unspelt ≡ spell_in f c
+  pub spelt_nowhere : pair_of c ≡ None → None ≡ spell_in f c
   spelt_nowhere e = sym (by_pair ∙ rw e)
 
-  pub spelt_pair : (m l : ℕ) → pair_of c ≡ Of m l → spell_pair f m l ≡ spell_in f c
+  pub spelt_pair : (m l : ℕ) → pair_of c ≡ Some (m, l) → Some (spell_pair f m l) ≡ spell_in f c
   spelt_pair m l e =
       let h = pair_hit c m l e in
       sym (ap (spell_pairing f) h.is_given)

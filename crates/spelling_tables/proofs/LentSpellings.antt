@@ -13,20 +13,16 @@ use Rattle.run.specs.Choice.{pick}
 use Rattle.run.proofs.Members.{at_member}
 use Rattle.sorts.specs.declared.Form.{Form}
 use Rattle.sorts.specs.declared.Form.TheVariants.{Eight, Seven, Basic}
-use Rattle.sorts.specs.declared.Octet.{Octet}
-use Rattle.sorts.specs.declared.Octet.TheVariants.{Is, Absent}
+use Rattle.std.specs.Prelude.{Option, Some, None}
 use Rattle.sorts.specs.Cells.{Cell, meaning, octet_in}
 use Rattle.sorts.specs.Tables.{supplementary}
 use Rattle.sorts.specs.Forms.{alphabet_of}
 use Rattle.sorts.proofs.Tests.{Alike}
 use Rattle.sorts.proofs.Lookups.{octet_hit}
-use Rattle.squares.specs.declared.Pairing.{Pairing}
-use Rattle.squares.specs.declared.Pairing.TheVariants.{Of, Nowhere}
 use Rattle.squares.specs.Squares.{character, squares, pair_of}
 use Rattle.squares.proofs.TableRule.{pair_hit}
 use Rattle.spelling.specs.declared.Spelling.{Spelling}
-use Rattle.spelling.specs.declared.Spelling.TheVariants.{Unspelt}
-use Rattle.spelling.specs.CanonicalSpelling.{octets_of}
+use Rattle.spelling.specs.CanonicalSpelling.{spelt_octets}
 use Rattle.spelling.specs.SpellingGiven.{spell_in}
 use Rattle.spelling_tables.specs.PackedSpellings.{ranges, in_ranges, is_in, slot_of, spelling_table, packed, packed_in}
 use Rattle.spelling_tables.specs.PackedSpellings.{low_in, packed_size, packed_octets}
@@ -44,7 +40,7 @@ told f c =
     (p, pick (eqb p 0) [] (packed_octets p), packed_size p, ltb c 0x10000)
 
 abbrev wanted : Form → ℕ → Fact
-wanted f c = let s = octets_of (spell_in f c) in (packed s, s, length s, true)
+wanted f c = let s = spelt_octets (spell_in f c) in (packed s, s, length s, true)
 
 abbrev is_known : ℕ → Bool
 is_known c = is_in ranges c
@@ -72,27 +68,27 @@ no_test : (c : ℕ) → is_known c ≡ false → is_known c ≡ true → ⊥
 no_test c p q = let w : ◌≡◌ {A = ℕ} 0 1 = cc in omega arith
 
 module _ (f : Form) (c : ℕ) (unknown : is_known c ≡ false) where
-  not_there : (cells : List Cell) → Alike (λ cell. is_known (meaning cell)) (λ cell. true) cells → octet_in cells c ≡ Absent
+  not_there : (cells : List Cell) → Alike (λ cell. is_known (meaning cell)) (λ cell. true) cells → octet_in cells c ≡ None
   not_there cells test = go (octet_in cells c) refl
     where
-      go : (x : Octet) → octet_in cells c ≡ x → x ≡ Absent
-      go Absent e = refl
-      go (Is o) e =
+      go : (x : Option ℕ) → octet_in cells c ≡ x → x ≡ None
+      go None e = refl
+      go (Some o) e =
           let h = octet_hit cells c o e in
           let k = at_member (λ cell. is_known (meaning cell)) (λ cell. true) h.member test in
           absurd (no_test c unknown (sym (ap is_known h.has_key) ∙ k))
 
-  no_pair : pair_of c ≡ Nowhere
+  no_pair : pair_of c ≡ None
   no_pair = go (pair_of c) refl
     where
-      go : (x : Pairing) → pair_of c ≡ x → x ≡ Nowhere
-      go Nowhere e = refl
-      go (Of m l) e =
+      go : (x : Option (ℕ × ℕ)) → pair_of c ≡ x → x ≡ None
+      go None e = refl
+      go (Some (m, l)) e =
           let h = pair_hit c m l e in
           let k = at_member (λ s. is_known (character s)) (λ s. true) h.member squares_known in
           absurd (no_test c unknown (sym (ap is_known h.has_key) ∙ k))
 
-  unspelt : spell_in f c ≡ Unspelt
+  unspelt : spell_in f c ≡ None
   unfolding spell_in
   unspelt =
       rw (
@@ -110,17 +106,17 @@ known_fact : (f : Form) (c : ℕ) → is_known c ≡ true → told f c ≡ wante
 known_fact f c e = at_member {B = Fact} (told f) (wanted f) (in_ranges_lem ranges c e) (tested f).entries
 
 -- An entry is the packed spelling of its character: 0 exactly where the form lacks it.
-pub packed_exactly : (f : Form) (c : ℕ) → packed_in (spelling_table f) c ≡ packed (octets_of (spell_in f c))
+pub packed_exactly : (f : Form) (c : ℕ) → packed_in (spelling_table f) c ≡ packed (spelt_octets (spell_in f c))
 packed_exactly f c = go (is_known c) refl
   where
-    go : (t : Bool) → is_known c ≡ t → packed_in (spelling_table f) c ≡ packed (octets_of (spell_in f c))
+    go : (t : Bool) → is_known c ≡ t → packed_in (spelling_table f) c ≡ packed (spelt_octets (spell_in f c))
     go true e = ap (λ (x : Fact). x.0) (known_fact f c e)
-    go false e = no_entry f c e ∙ sym (ap (λ (x : Spelling). packed (octets_of x)) (unspelt f c e))
+    go false e = no_entry f c e ∙ sym (ap (λ (x : Option Spelling). packed (spelt_octets x)) (unspelt f c e))
 
 -- what an entry that is not 0 is unpacked to
 pub record Unpacked (f : Form) (c p : ℕ) : Type 0 where
-  pub octets : packed_octets p ≡ octets_of (spell_in f c)
-  pub size : packed_size p ≡ length (octets_of (spell_in f c))
+  pub octets : packed_octets p ≡ spelt_octets (spell_in f c)
+  pub size : packed_size p ≡ length (spelt_octets (spell_in f c))
   pub small : c < 0x10000
 
 pub unpacked : (f : Form) (c p : ℕ) → p ≡ packed_in (spelling_table f) c → (p ≡ 0 → ⊥) → Unpacked f c p

@@ -5,7 +5,7 @@ use Rattle.std.specs.Prelude.{ℕ, suc, ◌+◌, ◌*◌, ◌-◌, ◌/◌, ◌%
 use Rattle.run.specs.Choice.{pick, within}
 use Rattle.sorts.specs.declared.Form.{Form}
 use Rattle.sorts.specs.Tables.{consecutive}
-use Rattle.spelling.specs.CanonicalSpelling.{octets_of}
+use Rattle.spelling.specs.CanonicalSpelling.{spelt_octets}
 use Rattle.spelling.specs.SpellingGiven.{spell_in}
 
 -- ---- a spelling as one number: how many octets, times 2^24, and the octets, the last of them lowest; 0 where there is none
@@ -59,7 +59,7 @@ slot_of c = place_by ranges c
 
 unfoldable pub spelling_table : Form → List ℕ
 unfolding spell_in
-spelling_table f = map (λ c. packed (octets_of (spell_in f c))) (in_ranges ranges)
+spelling_table f = map (λ c. packed (spelt_octets (spell_in f c))) (in_ranges ranges)
 
 -- an entry of such a table
 abbrev pub packed_in : List ℕ → ℕ → ℕ

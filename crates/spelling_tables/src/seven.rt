@@ -1,5 +1,5 @@
 // The canonical spelling of each character in form 2, as one number: how many octets, times 2^24, and the octets. 0 is none.
-pub const SPELLINGS: [u32; 430] = [
+pub static SPELLINGS: [u32; 430] = [
     // 0000
     0, 0, 0, 0, 0, 0, 0, 0, 0, 0, 0, 0, 0, 0, 0, 0,
     // 0010

@@ -10,12 +10,10 @@ use borrow.Author.Tests.{eq-eqb, ne_eqb}
 use Rattle.run.specs.Choice.{pick}
 use Rattle.run.proofs.Range.{listed, within², Rest, single}
 use Rattle.run.proofs.Search.{found_alike}
-use Rattle.sorts.specs.declared.Found.{Found}
-use Rattle.sorts.specs.declared.Found.TheVariants.{Char, Nothing}
+use Rattle.std.specs.Prelude.{Option, Some, None}
 use Rattle.sorts.specs.Sorts.{page_of}
 use Rattle.sorts.proofs.Tests.{Alike}
 use Rattle.sorts.proofs.TablePages.{in_page, empty_page}
-use Rattle.squares.specs.declared.Pairing.TheVariants.{Nowhere}
 use Rattle.squares.specs.Squares.{character, pairing, squares, pair_of, square_of, row_of, column_of, square_table, square_in}
 use Rattle.squares.specs.Squares.{pair_number, pair_from, pair_page}
 
@@ -30,8 +28,8 @@ entry_of table r c q e = e ∙ ap (λ (t : List (List ℕ)). square_in t r c) q
 -- ---- from a mark and a follower to a character
 
 -- what `paired` makes of an entry
-abbrev found : ℕ → Found
-found x = pick (eqb x 0) Nothing (Char x)
+abbrev found : ℕ → Option ℕ
+found x = pick (eqb x 0) None (Some x)
 
 -- the test: all pairs of octets
 found_test : listed (λ m. listed (λ l. square_of m l) 0 256) 0 256
@@ -44,10 +42,10 @@ module _ (m l r c x : ℕ) (er : r ≡ row_of m) (ec : c ≡ column_of l) (ex : 
   here : square_of m l ≡ found x
   here = rw (ex, er, ec) (within² square_of (λ i j. found (entry_at (row_of i) (column_of j))) 256 256 found_test m l hm hl)
 
-  pub empty : x ≡ 0 → Nothing ≡ square_of m l
+  pub empty : x ≡ 0 → None ≡ square_of m l
   empty e = sym (here ∙ simp (eq-eqb x 0 e))
 
-  pub filled : (x ≡ 0 → ⊥) → Char x ≡ square_of m l
+  pub filled : (x ≡ 0 → ⊥) → Some x ≡ square_of m l
   filled n = sym (here ∙ simp (ne_eqb x 0 n))
 
 -- ---- from a character to its pair
@@ -65,7 +63,7 @@ pages_test = refl
 
 pub no_pair_page : (page : ℕ) → Rest pair_pages page → page_of (λ c. 0) page ≡ pair_page page
 unfolding pair_page pair_of
-no_pair_page = empty_page character pairing Nowhere pair_number squares pair_pages pages_test refl
+no_pair_page = empty_page character pairing None pair_number squares pair_pages pages_test refl
 
 -- the test: each pair is what is made of its number
 pair_test : Alike (λ s. pair_from (pair_number (pairing s))) pairing squares
@@ -77,4 +75,4 @@ pub pair_there : (c : ℕ) (page : List ℕ) → page ≡ pair_page (c / 32) →
 unfolding pair_page pair_of
 pair_there c page e =
     ap pair_from (ap (λ (l : List ℕ). get_or l (c % 32) 0) e ∙ in_page (λ k. pair_number (pair_of k)) c)
-    ∙ found_alike character pairing Nowhere (λ p. pair_from (pair_number p)) (λ p. p) squares refl pair_test c
+    ∙ found_alike character pairing None (λ p. pair_from (pair_number p)) (λ p. p) squares refl pair_test c

@@ -2,19 +2,17 @@
 -- square and of a character undo each other. All by the one test over the 689 entries (TableTest).
 -- Assumes nothing.
 use Prim.Native.Nat.{ℕ}
-use mathlib.Core.Path.{◌≡◌, refl, sym, ap, subst, subst₃}
+use mathlib.Core.Path.{◌≡◌, refl, sym, ap, subst, subst₃, ◌∙◌}
 use mathlib.Core.List.Memᴰ
 use mathlib.Core.List.{List, [], ◌∷◌, Memᴰ}
-use native.Mathlib.Omega.{arith}
+use Rattle.std.proofs.lemmas.Option.{none-some}
+use Rattle.run.proofs.Members.{same_first, same_rest}
 use Rattle.run.proofs.Search.{Hit, hit}
-use Rattle.sorts.specs.declared.Found.TheVariants.{Char, Nothing}
-use Rattle.sorts.specs.declared.Octet.TheVariants.{Absent}
-use Rattle.squares.specs.declared.Pairing.TheVariants.{Of, Nowhere}
+use Rattle.std.specs.Prelude.{Option, Some, None}
 use Rattle.sorts.specs.Cells.{Cell, ◌is◌, octet, meaning, octet_in}
 use Rattle.sorts.specs.Tables.{Row, row, rows, supplementary}
-use Rattle.sorts.proofs.Lookups.{nothing_char}
 use Rattle.squares.specs.Squares.{Square, sq, character, pairing, mark_of, cells_of, cells_in, in_row, squares_in, squares, square_of}
-use Rattle.squares.specs.Squares.{pair_of}
+use Rattle.squares.specs.Squares.{pair_of, pairing_values}
 use Rattle.squares.proofs.TableTest.{told_of}
 
 -- ---- a filled square is a member of the list of squares
@@ -36,10 +34,10 @@ in_rows {cell = cell} (Memᴰ.head {x = row m _ cs} {xs = rs} p) h =
     (in_row_lem m (squares_in rs) (subst (λ (r : Row). Memᴰ cell (cells_of r)) p h))
 in_rows {r} {cell = cell} (Memᴰ.tail {x = row m _ cs} h) k = pass_row (as_square (mark_of r) cell) m cs (in_rows h k)
 
-pub filled_member : (m l c : ℕ) → square_of m l ≡ Char c → Memᴰ (sq m l c) squares
+pub filled_member : (m l c : ℕ) → square_of m l ≡ Some c → Memᴰ (sq m l c) squares
 unfolding square_of squares
 filled_member m l c e =
-    let h = hit octet (λ cell. Char (meaning cell)) Nothing (cells_in rows m) l (Char c) nothing_char e in
+    let h = hit octet (λ cell. Some (meaning cell)) None (cells_in rows m) l (Some c) (none-some _) e in
     let r = hit mark_of cells_of [] rows m (cells_in rows m) (λ q. Memᴰ.not-nil (subst (Memᴰ h.entry) (sym q) h.member)) refl
     in
     let mc : meaning h.entry ≡ c = cc h.is_given in
@@ -47,39 +45,40 @@ filled_member m l c e =
     (in_rows r.member (subst (Memᴰ h.entry) (sym r.is_given) h.member))
 
 -- and a member of it is filled
-pub member_filled : (m l c : ℕ) → Memᴰ (sq m l c) squares → square_of m l ≡ Char c
+pub member_filled : (m l c : ℕ) → Memᴰ (sq m l c) squares → square_of m l ≡ Some c
 member_filled m l c h = (told_of m l c h).forth
 
 -- ---- the rules
-module _ (m l c : ℕ) (e : square_of m l ≡ Char c) where
+module _ (m l c : ℕ) (e : square_of m l ≡ Some c) where
   -- the look-up of a filled square's character gives that square
-  pub inverse : pair_of c ≡ Of m l
+  pub inverse : pair_of c ≡ Some (m, l)
   inverse = (told_of m l c (filled_member m l c e)).back
 
   -- none is also a supplementary character
-  pub apart : octet_in supplementary c ≡ Absent
+  pub apart : octet_in supplementary c ≡ None
   apart = (told_of m l c (filled_member m l c e)).not_supplementary
 
--- no character fills two squares
-pub no_two : (m l m' l' c : ℕ) → square_of m l ≡ Char c → square_of m' l' ≡ Char c → (m ≡ m') × (l ≡ l')
-no_two m l m' l' c e e' = let i = inverse m l c e in let j = inverse m' l' c e' in (cc, cc)
+-- the parts of a pair
+same_parts : {a b m l : ℕ} → ◌≡◌ {A = Option (ℕ × ℕ)} (Some (a, b)) (Some (m, l)) → (a ≡ m) × (b ≡ l)
+same_parts e = let h = ap pairing_values e in (same_first h, same_first (same_rest h))
 
-pub nowhere_of : {m l : ℕ} → Nowhere ≡ Of m l → ⊥
-nowhere_of e = let z : ◌≡◌ {A = ℕ} 0 1 = cc in omega arith
+-- no character fills two squares
+pub no_two : (m l m' l' c : ℕ) → square_of m l ≡ Some c → square_of m' l' ≡ Some c → (m ≡ m') × (l ≡ l')
+no_two m l m' l' c e e' = same_parts (sym (inverse m l c e) ∙ inverse m' l' c e')
 
 -- the square that a found pair comes from
-pub pair_hit : (c m l : ℕ) → pair_of c ≡ Of m l → Hit character pairing Nowhere squares c (Of m l)
+pub pair_hit : (c m l : ℕ) → pair_of c ≡ Some (m, l) → Hit character pairing None squares c (Some (m, l))
 unfolding pair_of
-pair_hit c m l e = hit character pairing Nowhere squares c (Of m l) nowhere_of e
+pair_hit c m l e = hit character pairing None squares c (Some (m, l)) (none-some _) e
 
-same_square : (s : Square) (m l c : ℕ) → pairing s ≡ Of m l → character s ≡ c → s ≡ sq m l c
+same_square : (s : Square) (m l c : ℕ) → pairing s ≡ Some (m, l) → character s ≡ c → s ≡ sq m l c
 same_square (sq a b d) m l c p q =
-    let ea : a ≡ m = cc in
-    let eb : b ≡ l = cc in
+    let ea : a ≡ m = (same_parts p).0 in
+    let eb : b ≡ l = (same_parts p).1 in
     cc
 
 -- the square of a found pair has that character
-pub forward : (m l c : ℕ) → pair_of c ≡ Of m l → square_of m l ≡ Char c
+pub forward : (m l c : ℕ) → pair_of c ≡ Some (m, l) → square_of m l ≡ Some c
 forward m l c e =
     let h = pair_hit c m l e in
     (told_of m l c (Memᴰ.cast (sym (same_square h.entry m l c h.is_given h.has_key)) h.member)).forth

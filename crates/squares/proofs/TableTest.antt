@@ -9,14 +9,9 @@ use mathlib.Core.List.{List, [], ◌∷◌, map, Memᴰ}
 use lib.ListN.{get_or}
 use Rattle.run.proofs.Members.{at_member}
 use Rattle.run.proofs.Search.{filled}
-use Rattle.sorts.specs.declared.Found.{Found}
-use Rattle.sorts.specs.declared.Found.TheVariants.{Char}
-use Rattle.sorts.specs.declared.Octet.{Octet}
-use Rattle.sorts.specs.declared.Octet.TheVariants.{Absent}
+use Rattle.std.specs.Prelude.{Option, Some, None}
 use Rattle.sorts.specs.Cells.{octet_in}
 use Rattle.sorts.specs.Tables.{supplementary}
-use Rattle.squares.specs.declared.Pairing.{Pairing}
-use Rattle.squares.specs.declared.Pairing.TheVariants.{Of}
 use Rattle.squares.specs.Squares.{Square, sq, squares, square_of, pair_of, marks, followers, square_table, square_in}
 
 -- the entry at a place, counted row by row
@@ -32,13 +27,13 @@ filled_entries = filled place_entry square_at 0 689
 
 -- what is told of a filled square: itself, the character of its mark and follower, the pair of its character, the supplementary octet of it
 data Told : Type 0 where
-  tell : Square → Found → Pairing → Octet → Told
+  tell : Square → Option ℕ → Option (ℕ × ℕ) → Option ℕ → Told
 
 told : Square → Told
 told (sq m l c) = tell (sq m l c) (square_of m l) (pair_of c) (octet_in supplementary c)
 
 wanted : Square → Told
-wanted (sq m l c) = tell (sq m l c) (Char c) (Of m l) Absent
+wanted (sq m l c) = tell (sq m l c) (Some c) (Some (m, l)) None
 
 -- THE TEST
 table_test : map told filled_entries ≡ map wanted squares
@@ -65,9 +60,9 @@ squares_filled = sym (squares_wanted squares) ∙ ap (map told_square) (sym tabl
 
 -- ---- what the test says of a filled square
 pub record ToldOf (m l c : ℕ) : Type 0 where
-  pub forth : square_of m l ≡ Char c
-  pub back : pair_of c ≡ Of m l
-  pub not_supplementary : octet_in supplementary c ≡ Absent
+  pub forth : square_of m l ≡ Some c
+  pub back : pair_of c ≡ Some (m, l)
+  pub not_supplementary : octet_in supplementary c ≡ None
 
 pub told_of : (m l c : ℕ) → Memᴰ (sq m l c) squares → ToldOf m l c
 unfolding told wanted

@@ -1,12 +1,8 @@
 -- To be believed: the squares of 13 marks by 53 followers, the character of a mark and its follower, and the pair of a character; behind
 -- them, parts of the code: the table of 13 by 53 and its places, and the pages of pairs.
 -- Assumes nothing.
-use Rattle.std.specs.Prelude.{ℕ, suc, ◌+◌, ◌-◌, ◌*◌, ◌/◌, ◌%◌, List, [], ◌∷◌, ◌++◌, map, eqb, leb, length, get_or}
+use Rattle.std.specs.Prelude.{ℕ, suc, ◌+◌, ◌-◌, ◌*◌, ◌/◌, ◌%◌, List, [], ◌∷◌, ◌++◌, map, eqb, leb, length, get_or, Option, Some, None}
 use Rattle.run.specs.Choice.{pick, within, first_by}
-use Rattle.sorts.specs.declared.Found.{Found}
-use Rattle.sorts.specs.declared.Found.TheVariants.{Char, Nothing}
-use Rattle.squares.specs.declared.Pairing.{Pairing}
-use Rattle.squares.specs.declared.Pairing.TheVariants.{Of, Nowhere}
 use Rattle.sorts.specs.Cells.{Cell, ◌is◌, char_in, number}
 use Rattle.sorts.specs.Tables.{Row, row, rows, letters, consecutive}
 use Rattle.sorts.specs.Sorts.{page_of}
@@ -30,19 +26,19 @@ abbrev pub cells_in : List Row → ℕ → List Cell
 cells_in = first_by mark_of cells_of []
 
 -- the character of a mark and its listed follower
-unfoldable pub square_of : ℕ → ℕ → Found
+unfoldable pub square_of : ℕ → ℕ → Option ℕ
 unfolding rows
 square_of m l = char_in (cells_in rows m) l
 
 -- 01's number of each answer to that: 3 where "what follows a mark isn't its listed follower"
-abbrev pub found_number : Found → ℕ
-found_number (Char c) = 0
-found_number Nothing = 3
+abbrev pub found_number : Option ℕ → ℕ
+found_number (Some c) = 0
+found_number None = 3
 
 -- and its values: the character, where there is one
-abbrev pub found_values : Found → List ℕ
-found_values (Char c) = c ∷ []
-found_values Nothing = []
+abbrev pub found_values : Option ℕ → List ℕ
+found_values (Some c) = c ∷ []
+found_values None = []
 
 -- a filled square: its mark, its follower, its character
 pub data Square : Type 0 where
@@ -64,21 +60,21 @@ squares = squares_in rows
 abbrev pub character : Square → ℕ
 character (sq m l c) = c
 
-abbrev pub pairing : Square → Pairing
-pairing (sq m l c) = Of m l
+abbrev pub pairing : Square → Option (ℕ × ℕ)
+pairing (sq m l c) = Some (m, l)
 
 -- the first pair that makes a character
-abbrev pub pair_in : List Square → ℕ → Pairing
-pair_in = first_by character pairing Nowhere
+abbrev pub pair_in : List Square → ℕ → Option (ℕ × ℕ)
+pair_in = first_by character pairing None
 
-unfoldable pub pair_of : ℕ → Pairing
+unfoldable pub pair_of : ℕ → Option (ℕ × ℕ)
 unfolding squares
 pair_of c = pair_in squares c
 
 -- 01's values of each answer to that: the mark and the follower. It has no number for either: 10 is a form's that lacks the character
-abbrev pub pairing_values : Pairing → List ℕ
-pairing_values (Of m l) = m ∷ l ∷ []
-pairing_values Nowhere = []
+abbrev pub pairing_values : Option (ℕ × ℕ) → List ℕ
+pairing_values (Some (m, l)) = m ∷ l ∷ []
+pairing_values None = []
 
 -- "13 marks by 53 followers (52 letters and SPACE)": A to Z, a to z, SPACE
 unfoldable pub marks : List ℕ
@@ -118,13 +114,13 @@ column_of l =
 -- ---- parts of the code: pages of pairs
 
 -- a pair as one number: 0x100 times its mark, and its follower; 0 where there is none
-abbrev pub pair_number : Pairing → ℕ
-pair_number (Of m l) = 0x100 * m + l
-pair_number Nowhere = 0
+abbrev pub pair_number : Option (ℕ × ℕ) → ℕ
+pair_number (Some (m, l)) = 0x100 * m + l
+pair_number None = 0
 
 -- and a number as that pair
-abbrev pub pair_from : ℕ → Pairing
-pair_from x = pick (eqb x 0) Nowhere (Of (x / 0x100) (x % 0x100))
+abbrev pub pair_from : ℕ → Option (ℕ × ℕ)
+pair_from x = pick (eqb x 0) None (Some (x / 0x100, x % 0x100))
 
 -- the pairs of a page's characters
 unfoldable pub pair_page : ℕ → List ℕ

@@ -8,15 +8,6 @@ ghost use Rattle.std.specs.Prelude.{◌≡◌};
 ghost use Rattle.squares.specs.Squares.{row_of, pair_page, pair_from};
 ghost use Rattle.squares.specs.Promises.{ColumnOfPromise, SquareTablePromise, SquareInPromise, PairedPromise, FindPairPromise};
 
-use sorts::Found;
-
-// The mark and the follower of a character.
-#[derive(Clone, Copy)]
-pub enum Pairing {
-    Of(u8, u8),
-    Nowhere,
-}
-
 // The row of a mark, or 13 where the octet is no mark.
 fn row_of(mark: u8) -> usize
     ensures { result ≡ row_of mark }
@@ -41,11 +32,11 @@ pub fn column_of(follower: u8) -> usize
     }
 }
 
-// The table of squares, to be lent: made once for a whole text, as a look-up in a constant copies the whole of it.
-pub fn square_table() -> [[u16; 53]; 13]
-    ensures { SquareTablePromise result }
+// The table of squares.
+pub fn square_table() -> &'static [[u16; 53]; 13]
+    ensures { SquareTablePromise result.now }
 {
-    table::SQUARES
+    &table::SQUARES
 }
 
 // An entry of a lent table of squares: 0 where the square is empty, or past the table.
@@ -58,53 +49,52 @@ pub fn square_in(table: &[[u16; 53]; 13], row: usize, column: usize) -> u32
     if 53 <= column {
         return 0;
     }
-    sorts::wide(table[row][column])
+    u32::from(table[row][column])
 }
 
 // The character of a mark, as its octet in the eight-bit forms, and a follower.
-pub fn paired(mark: u8, follower: u8) -> Found
+pub fn paired(mark: u8, follower: u8) -> Option<u32>
     ensures { PairedPromise mark follower result }
 {
-    let table = table::SQUARES;
-    let x = square_in(&table, row_of(mark), column_of(follower));
+    let x = square_in(&table::SQUARES, row_of(mark), column_of(follower));
     if x == 0 {
-        return Found::Nothing;
+        return None;
     }
-    Found::Char(x)
+    Some(x)
 }
 
 // The pairs of the 32 characters from 32 times a page's number on, each as one number: 0x100 times its mark, and its follower; 0 where
-// there is none. The pages are small, as a look-up in a constant copies the whole of it.
-fn pair_page(page: u32) -> [u16; 32]
-    ensures { result ≡ pair_page page }
+// there is none.
+fn pair_page(page: u32) -> &'static [u16; 32]
+    ensures { result.now ≡ pair_page page }
 {
     match page {
-        0x02 => pages::FROM_0040,
-        0x03 => pages::FROM_0060,
-        0x05 => pages::FROM_00A0,
-        0x06 => pages::FROM_00C0,
-        0x07 => pages::FROM_00E0,
-        0x08 => pages::FROM_0100,
-        0x09 => pages::FROM_0120,
-        0x0A => pages::FROM_0140,
-        0x0B => pages::FROM_0160,
-        0x16 => pages::FROM_02C0,
-        _ => [0; 32],
+        0x02 => &pages::FROM_0040,
+        0x03 => &pages::FROM_0060,
+        0x05 => &pages::FROM_00A0,
+        0x06 => &pages::FROM_00C0,
+        0x07 => &pages::FROM_00E0,
+        0x08 => &pages::FROM_0100,
+        0x09 => &pages::FROM_0120,
+        0x0A => &pages::FROM_0140,
+        0x0B => &pages::FROM_0160,
+        0x16 => &pages::FROM_02C0,
+        _ => &[0; 32],
     }
 }
 
 // A pair from its number.
-fn pair_from(number: u16) -> Pairing
+fn pair_from(number: u16) -> Option<(u8, u8)>
     ensures { result ≡ pair_from number }
 {
     if number == 0 {
-        return Pairing::Nowhere;
+        return None;
     }
-    Pairing::Of((number / 0x100) as u8, (number % 0x100) as u8)
+    Some(((number / 0x100) as u8, (number % 0x100) as u8))
 }
 
-// The pair of a character, looked up in its page.
-pub fn find_pair(c: u32) -> Pairing
+// The mark and the follower of a character, looked up in its page.
+pub fn find_pair(c: u32) -> Option<(u8, u8)>
     ensures { FindPairPromise c result }
 {
     let page = pair_page(c / 32);

@@ -1,5 +1,5 @@
 // The table of squares: 13 rows, one a mark, of 53 followers: A to Z, a to z, SPACE. 0 is an empty square.
-pub const SQUARES: [[u16; 53]; 13] = [
+pub static SQUARES: [[u16; 53]; 13] = [
     // C1 grave
     [
         0x00C0, 0, 0, 0, 0x00C8, 0, 0, 0, 0x00CC, 0, 0, 0, 0, 0, 0x00D2, 0, 0, 0, 0, 0, 0x00D9, 0,

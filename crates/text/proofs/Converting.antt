@@ -17,7 +17,7 @@ use Rattle.run.specs.Answers.{given, same, after_reading}
 use Rattle.run.proofs.Outcomes as outcomes
 use Rattle.run.proofs.Spellers.{spelt_not, why}
 use Rattle.sorts.specs.declared.Form.{Form}
-use Rattle.sorts.specs.declared.FormFound.TheVariants.{Is}
+use Rattle.std.specs.Prelude.{Some}
 use Rattle.sorts.specs.Forms.{form_of}
 use Rattle.element_words.specs.declared.Element.{Element}
 use Rattle.element_reading.specs.Grammar.{Spells}
@@ -197,7 +197,7 @@ module _ (f g : Form) where
 
 -- ---- the answers, where both forms are known
 
-module _ (source target : ℕ) (f g : Form) (is_source : form_of source ≡ Is f) (is_target : form_of target ≡ Is g) (text out : List ℕ) where
+module _ (source target : ℕ) (f g : Form) (is_source : form_of source ≡ Some f) (is_target : form_of target ≡ Some g) (text out : List ℕ) where
   -- what respelling promises, with the number that it carries
   pub promised : {r : ReadAnswer} {after : List ℕ} → RespellPromise f g text out r after → ConvertPromise source target text out r after
   unfolding convert_answer convert_text convert_in respelled_in

@@ -24,8 +24,7 @@ use Rattle.run.proofs.Outcomes.{run_append, run_by, run_length}
 use Rattle.run.proofs.Answers.{given_append, accepted_carries, refused_carries, carries_exactly}
 use Rattle.run.specs.OneAnswer.{Once, OnceBoth}
 use Rattle.sorts.specs.declared.Form.{Form}
-use Rattle.sorts.specs.declared.FormFound.{FormFound}
-use Rattle.sorts.specs.declared.FormFound.TheVariants.{Is, Nothing}
+use Rattle.std.specs.Prelude.{Option, Some, None}
 use Rattle.sorts.specs.Forms.{form_of, in_form}
 use Rattle.element_words.specs.declared.Element.{Element}
 use Rattle.element_words.specs.Words.{words_of}
@@ -207,7 +206,7 @@ by_reading f g (ConvertingFault.reading h) l = h
 by_reading f g (ConvertingFault.not_held run k) l = absurd (omega arith)
 
 -- The number tells the row.
-pub read_tells : (form : ℕ) (f : Form) → form_of form ≡ Is f → (text words : List ℕ)
+pub read_tells : (form : ℕ) (f : Form) → form_of form ≡ Some f → (text words : List ℕ)
     → Tells words_of (RunOf (Spells f) text) (ReadingFault f text) text words (read_answer form text (length words))
     (read_words form text words)
 unfolding read_answer read_words
@@ -215,7 +214,7 @@ read_tells form f q text words =
     tells (reading_numbered f text)
     (in_its_form form words _ _ _ (λ g. by_table words_of _ _ (read_in g text) (read_meets g text) text words) f q)
 
-pub write_tells : (form : ℕ) (f : Form) → form_of form ≡ Is f → (words text : List ℕ)
+pub write_tells : (form : ℕ) (f : Form) → form_of form ≡ Some f → (words text : List ℕ)
     → Tells same (RunOf (Writes f) words) (WritingFault f words) words text (write_answer form words (length text))
     (write_text form words text)
 unfolding write_answer write_text
@@ -223,7 +222,7 @@ write_tells form f q words text =
     tells (writing_numbered f words)
     (in_its_form form text _ _ _ (λ g. by_table same _ _ (write_in g words) (write_meets g words) words text) f q)
 
-pub convert_tells : (source target : ℕ) (f g : Form) → form_of source ≡ Is f → form_of target ≡ Is g → (text out : List ℕ)
+pub convert_tells : (source target : ℕ) (f g : Form) → form_of source ≡ Some f → form_of target ≡ Some g → (text out : List ℕ)
     → Tells same (RunOf (Respells f g) text) (ConvertingFault f g text) text out (convert_answer source target text (length out))
     (convert_text source target text out)
 unfolding convert_answer convert_text
@@ -232,13 +231,13 @@ convert_tells source target f g q p text out =
     (tells (converting_numbered f g text)
     (in_its_form target out _ _ _ (λ h. by_table same _ _ (convert_in f h text) (convert_meets f h text) text out) g p))
 
-pub read_never_10 : (form : ℕ) (f : Form) → form_of form ≡ Is f → (text words : List ℕ) → (read_answer form text (length words)).number ≡ 10
+pub read_never_10 : (form : ℕ) (f : Form) → form_of form ≡ Some f → (text words : List ℕ) → (read_answer form text (length words)).number ≡ 10
     → ⊥
 read_never_10 form f q text words e =
     let t = (read_tells form f q text words).is_fault (omega arith) (omega arith) (λ z. omega arith) in
     omega (arith, (reading_low f text _ _ _ _ t.2).1)
 
-pub write_only_10 : (form : ℕ) (f : Form) → form_of form ≡ Is f → (words text : List ℕ) → 0 < (write_answer form words (length text)).number
+pub write_only_10 : (form : ℕ) (f : Form) → form_of form ≡ Some f → (words text : List ℕ) → 0 < (write_answer form words (length text)).number
     → (write_answer form words (length text)).number < 9 → ⊥
 write_only_10 form f q words text a b =
     let t = (write_tells form f q words text).is_fault a (omega arith) (λ z. omega arith) in
@@ -266,23 +265,23 @@ pub convert_11 : (source target : ℕ) (text out : List ℕ)
 unfolding convert_answer
 convert_11 source target text out = (forth (form_of source) (form_of target) refl refl, back (form_of source) (form_of target) refl refl)
   where
-    answer_by_lem : FormFound → FormFound → Answer
+    answer_by_lem : Option Form → Option Form → Answer
     answer_by_lem x y =
         in_form x (bare 11) (λ f. in_form y (bare 11)
         (λ g. within_limit text (bare 12) (answer_of same (length text) (length out) (convert_in f g text))))
 
-    forth : (x y : FormFound) → form_of source ≡ x → form_of target ≡ y → (answer_by_lem x y).number ≡ 11 → NoForm source ⊎ NoForm target
-    forth (Is f) (Is g) q p e =
+    forth : (x y : Option Form) → form_of source ≡ x → form_of target ≡ y → (answer_by_lem x y).number ≡ 11 → NoForm source ⊎ NoForm target
+    forth (Some f) (Some g) q p e =
         absurd ((tells (converting_numbered f g text)
         ((by_table same _ _ (convert_in f g text) (convert_meets f g text) text out _ _).0 (refl, refl))).not_11 e)
-    forth (Is f) Nothing q p e = inr ((none_exactly target).0 p)
-    forth Nothing y q p e = inl ((none_exactly source).0 q)
+    forth (Some f) None q p e = inr ((none_exactly target).0 p)
+    forth None y q p e = inl ((none_exactly source).0 q)
 
-    back : (x y : FormFound) → form_of source ≡ x → form_of target ≡ y → NoForm source ⊎ NoForm target → (answer_by_lem x y).number ≡ 11
-    back (Is f) (Is g) q p (inl n) = let z = sym q ∙ (none_exactly source).1 n in let w : ◌≡◌ {A = ℕ} 0 1 = cc in absurd (omega arith)
-    back (Is f) (Is g) q p (inr n) = let z = sym p ∙ (none_exactly target).1 n in let w : ◌≡◌ {A = ℕ} 0 1 = cc in absurd (omega arith)
-    back (Is f) Nothing q p e = refl
-    back Nothing y q p e = refl
+    back : (x y : Option Form) → form_of source ≡ x → form_of target ≡ y → NoForm source ⊎ NoForm target → (answer_by_lem x y).number ≡ 11
+    back (Some f) (Some g) q p (inl n) = let z = sym q ∙ (none_exactly source).1 n in let w : ◌≡◌ {A = ℕ} 0 1 = cc in absurd (omega arith)
+    back (Some f) (Some g) q p (inr n) = let z = sym p ∙ (none_exactly target).1 n in let w : ◌≡◌ {A = ℕ} 0 1 = cc in absurd (omega arith)
+    back (Some f) None q p e = refl
+    back None y q p e = refl
 
 -- Every refusal leaves each lent buffer as it was.
 pub read_keeps : (form : ℕ) (text words : List ℕ) → ((read_answer form text (length words)).number ≡ 0 → ⊥)
@@ -302,13 +301,13 @@ convert_keeps source target text out =
     ((convert_exactly source target text out _ _).0 (refl, refl))
 
 -- The four numbers of a lone read: "A lone read's refusal has element 0",
-pub read_element_refused : (form : ℕ) (f : Form) → form_of form ≡ Is f → (text : List ℕ) (at r d : ℕ) → length text ≤ limit
+pub read_element_refused : (form : ℕ) (f : Form) → form_of form ≡ Some f → (text : List ℕ) (at r d : ℕ) → length text ≤ limit
     → Refuses f (drop at text) r d → step_answer (lone_step form text at) ≡ answer r 0 at (at + d)
 read_element_refused form f q text at r d l h =
     ap (λ (a : ReadAnswer). a.answer) ((lone_exactly form text at _ _).1 (LoneTable.one_element q l (ElementRow.refused h))).0
 
 -- and an element read comes with its words and the place after it.
-pub read_element_read : (form : ℕ) (f : Form) → form_of form ≡ Is f → (text : List ℕ) (at k : ℕ) (e : Element) → length text ≤ limit
+pub read_element_read : (form : ℕ) (f : Form) → form_of form ≡ Some f → (text : List ℕ) (at k : ℕ) (e : Element) → length text ≤ limit
     → Begins (Spells f) (drop at text) e k
     → (step_answer (lone_step form text at) ≡ answer 0 1 (at + k) (length (words_of e))) × (step_words (lone_step form text at) ≡ words_of e)
 read_element_read form f q text at k e l b =
@@ -317,7 +316,7 @@ read_element_read form f q text at k e l b =
 
 -- Document 02: "Each element read must also say whether it stood in its form's canonical spelling": it did exactly where the octets from its
 -- place up to the one after it are its canonical spelling.
-pub read_element_flag : (form : ℕ) (f : Form) → form_of form ≡ Is f → (text : List ℕ) (at : ℕ) (e : Element) (next : ℕ) (b : Bool)
+pub read_element_flag : (form : ℕ) (f : Form) → form_of form ≡ Some f → (text : List ℕ) (at : ℕ) (e : Element) (next : ℕ) (b : Bool)
     → ReadElementPromise form text at (Read e next b) → (b ≡ true) ↔ CanonicalElement f (take (next - at) (drop at text)) e
 read_element_flag form f q text at = lone_flag form text at f q
 
@@ -338,7 +337,7 @@ read_element_11 form text at = (
     forth (LoneTable.over_limit q l) e = absurd (omega arith)
     forth (LoneTable.one_element q l r) e = absurd (omega (arith, row_low r))
 
-pub read_element_12 : (form : ℕ) (f : Form) → form_of form ≡ Is f → (text : List ℕ) (at : ℕ)
+pub read_element_12 : (form : ℕ) (f : Form) → form_of form ≡ Some f → (text : List ℕ) (at : ℕ)
     → ((step_answer (lone_step form text at)).number ≡ 12) ↔ (limit < length text)
 read_element_12 form f q text at = (
   forth ((lone_exactly form text at _ _).0 (refl, refl)),
@@ -351,14 +350,14 @@ read_element_12 form f q text at = (
     forth (LoneTable.one_element q l r) e = absurd (omega (arith, row_low r))
 
 -- No octet gives more than one word: room for as many words as the text has octets is never short.
-pub room_enough : (form : ℕ) (f : Form) → form_of form ≡ Is f → (text words : List ℕ) → length text ≤ length words
+pub room_enough : (form : ℕ) (f : Form) → form_of form ≡ Some f → (text words : List ℕ) → length text ≤ length words
     → (read_answer form text (length words)).number ≡ 9 → ⊥
 room_enough form f q text words h e =
     let t = (read_tells form f q text words).is_9 e in
     omega (arith, t.3, words_fit t.2.1)
 
 -- so 9 is never given where a text is measured.
-pub measure_never_9 : (form : ℕ) (f : Form) → form_of form ≡ Is f → (text : List ℕ) → (read_answer form text (length text)).number ≡ 9 → ⊥
+pub measure_never_9 : (form : ℕ) (f : Form) → form_of form ≡ Some f → (text : List ℕ) → (read_answer form text (length text)).number ≡ 9 → ⊥
 measure_never_9 form f q text = let l : length text ≤ length text = omega arith in room_enough form f q text text l
 
 -- Each public function's promise, by the name that its `ensures` cites, allows one answer.
@@ -376,7 +375,7 @@ one_answer form target at text words out =
 
 -- ======== Demand 2: what is accepted, and what it means; canonical spelling
 
-module _ (form : ℕ) (f : Form) (is_form : form_of form ≡ Is f) where
+module _ (form : ℕ) (f : Form) (is_form : form_of form ≡ Some f) where
   -- A text within the limit, with room enough lent, is accepted exactly when it is a run of elements of its form,
   pub accepts_exactly : (text words : List ℕ)
       → ((read_answer form text (length words)).number ≡ 0)
@@ -476,7 +475,7 @@ module _ (f : Form) where
         canonical = more c i.canonical;
       }
 
-module _ (form : ℕ) (f : Form) (is_form : form_of form ≡ Is f) where
+module _ (form : ℕ) (f : Form) (is_form : form_of form ≡ Some f) where
   -- Each list of elements that a form holds is written, in its canonical spelling (within the limit, with room enough lent),
   pub write_accepted : (s text : List ℕ) (es : List Element) → length (given words_of es) ≤ limit → AllHeld f es
       → RunOf (CanonicalElement f) s es → length s ≤ length text
@@ -565,7 +564,7 @@ module _ (f g : Form) where
   respelt_run (more sp r) (and h a) (more {p = q} c k) =
       let i = respelt_run r a k in (more (Respells.respells sp h c) i.0, ap (λ (u : List ℕ). q ++ u) i.1)
 
-module _ (source target : ℕ) (f g : Form) (is_source : form_of source ≡ Is f) (is_target : form_of target ≡ Is g) where
+module _ (source target : ℕ) (f g : Form) (is_source : form_of source ≡ Some f) (is_target : form_of target ≡ Some g) where
   -- What it writes is the target's canonical spelling of what the source text means, where the target holds that,
   pub convert_accepted : (text s out : List ℕ) (es : List Element) → length text ≤ limit → RunOf (Spells f) text es → AllHeld g es
       → RunOf (CanonicalElement g) s es → length s ≤ length out
@@ -615,7 +614,7 @@ module _ (source target : ℕ) (f g : Form) (is_source : form_of source ≡ Is f
           (omega arith) (λ z. omega arith) in
           (t.0, t.2)
 
-module _ (form : ℕ) (f : Form) (is_form : form_of form ≡ Is f) where
+module _ (form : ℕ) (f : Form) (is_form : form_of form ≡ Some f) where
   -- Within a form it is respelling: every text that is read is respelt, never refused with 10;
   pub respelt : (text : List ℕ) (es : List Element) → length text ≤ limit → RunOf (Spells f) text es
       → (s : List ℕ) × RunOf (CanonicalElement f) s es
@@ -635,7 +634,7 @@ module _ (form : ℕ) (f : Form) (is_form : form_of form ≡ Is f) where
 
 -- ======== Demand 3: joined texts, and conversions one after another
 
-module _ (form : ℕ) (f : Form) (is_form : form_of form ≡ Is f) (s t : List ℕ) (within : length (s ++ t) ≤ limit)
+module _ (form : ℕ) (f : Form) (is_form : form_of form ≡ Some f) (s t : List ℕ) (within : length (s ++ t) ≤ limit)
     (es : List Element) (first : RunOf (Spells f) s es) where
   -- Two accepted texts of one form, joined, are accepted and mean both meanings joined, with room enough lent.
   pub joined_read : (words : List ℕ) (fs : List Element) → RunOf (Spells f) t fs
@@ -665,7 +664,7 @@ module _ (form : ℕ) (f : Form) (is_form : form_of form ≡ Is f) (s t : List �
       a.0 ∙ ap (answer r (length es + n) (length s + p))
       (sym (count_is_place r (length s + v.0) k) ∙ ap (λ (i : ℕ). length s + i) (sym (v.3 ∙ sym (count_is_place r v.0 k))))
 
-module _ (source target : ℕ) (f g : Form) (is_source : form_of source ≡ Is f) (is_target : form_of target ≡ Is g)
+module _ (source target : ℕ) (f g : Form) (is_source : form_of source ≡ Some f) (is_target : form_of target ≡ Some g)
     (s t : List ℕ) (within : length (s ++ t) ≤ limit) (es fs : List Element) (first : RunOf (Spells f) s es)
     (second : RunOf (Spells f) t fs) (all_held : AllHeld g es) (u : List ℕ) (spelling : RunOf (CanonicalElement g) u es) where
   held_append : {xs ys : List Element} → AllHeld g xs → AllHeld g ys → AllHeld g (xs ++ ys)
@@ -698,7 +697,7 @@ module _ (source target : ℕ) (f g : Form) (is_source : form_of source ≡ Is f
       ∙ ap (λ (k : ℕ). answer 10 (k + n) (length s + p) 0) (run_length spelling.1)
 
 -- both forms are known, and the text is within the limit
-in_two_forms : (source target : ℕ) (f g : Form) → form_of source ≡ Is f → form_of target ≡ Is g → (text out : List ℕ) → length text ≤ limit
+in_two_forms : (source target : ℕ) (f g : Form) → form_of source ≡ Some f → form_of target ≡ Some g → (text out : List ℕ) → length text ≤ limit
     → (convert_answer source target text (length out) ≡ answer_of same (length text) (length out) (convert_in f g text))
     × (convert_text source target text out ≡ written_of same out (convert_in f g text))
 in_two_forms source target f g q p text out l =
@@ -726,7 +725,7 @@ alike_answers n m l (refusal r e p d) (refusal r' e' p' d') a =
 -- If a text converts from one form to a second, converting the result to any third gives the octets of the direct conversion, or the same
 -- refusal number at the same element. The result s is the second form's canonical spelling of what the text means (`converted_means`),
 -- within the limit.
-pub composes : (source second third : ℕ) (f g h : Form) → form_of source ≡ Is f → form_of second ≡ Is g → form_of third ≡ Is h
+pub composes : (source second third : ℕ) (f g h : Form) → form_of source ≡ Some f → form_of second ≡ Some g → form_of third ≡ Some h
     → (text s out : List ℕ) (es : List Element) → length text ≤ limit → length s ≤ limit → RunOf (Spells f) text es
     → RunOf (CanonicalElement g) s es
     → SameConversion (convert_answer source third text (length out)) (convert_answer second third s (length out))
@@ -745,29 +744,29 @@ composes source second third f g h is_source is-second is-third text s out es l 
 -- ---- from the promises' own words
 
 -- a number that is some form's
-known : (n : ℕ) → (NoForm n → ⊥) → (f : Form) × (form_of n ≡ Is f)
+known : (n : ℕ) → (NoForm n → ⊥) → (f : Form) × (form_of n ≡ Some f)
 known n h = go (form_of n) refl
   where
-    go : (x : FormFound) → form_of n ≡ x → (f : Form) × (form_of n ≡ Is f)
-    go (Is f) q = (f, q)
-    go Nothing q = absurd (h ((none_exactly n).0 q))
+    go : (x : Option Form) → form_of n ≡ x → (f : Form) × (form_of n ≡ Some f)
+    go (Some f) q = (f, q)
+    go None q = absurd (h ((none_exactly n).0 q))
 
 -- a text that was read, or refused with 1 to 8, is of a form;
 of_a_form : (form : ℕ) (text words : List ℕ) {r : ReadAnswer} {after : List ℕ} → ReadPromise form text words r after
-    → r.answer.number < 11 → (f : Form) × (form_of form ≡ Is f)
+    → r.answer.number < 11 → (f : Form) × (form_of form ≡ Some f)
 of_a_form form text words p z =
     known form (λ n. omega (arith, z, (read_11 form text words).1 n, ap (λ (a : Answer). a.number) (four p.0)))
 
 -- a conversion that was accepted, or refused with 1 to 10, was between two
 between_forms : (source target : ℕ) (text out : List ℕ) {r : ReadAnswer} {after : List ℕ} → ConvertPromise source target text out r after
-    → r.answer.number < 11 → ((f : Form) × (form_of source ≡ Is f)) × ((g : Form) × (form_of target ≡ Is g))
+    → r.answer.number < 11 → ((f : Form) × (form_of source ≡ Some f)) × ((g : Form) × (form_of target ≡ Some g))
 between_forms source target text out p z =
     let never : NoForm source ⊎ NoForm target → ⊥ =
     λ n. omega (arith, z, (convert_11 source target text out).1 n, ap (λ (a : Answer). a.number) (four p.0)) in
     (known source (λ n. never (inl n)), known target (λ n. never (inr n)))
 
 -- a text that was read is a run of as many elements
-run_read : (form : ℕ) (f : Form) → form_of form ≡ Is f → (text words : List ℕ) {r : ReadAnswer} {after : List ℕ}
+run_read : (form : ℕ) (f : Form) → form_of form ≡ Some f → (text words : List ℕ) {r : ReadAnswer} {after : List ℕ}
     → ReadPromise form text words r after → r.answer.number ≡ 0
     → (es : List Element) × RunOf (Spells f) text es × (r.answer.element ≡ length es) × (length text ≤ limit)
 run_read form f q text words p z =
@@ -781,7 +780,7 @@ record Accepted (source target : ℕ) (f g : Form) (text out : List ℕ) (r : An
   elements : r.element ≡ length converted.meaning
   count : r.count ≡ length converted.octets
 
-accepted_by : (source target : ℕ) (f g : Form) → form_of source ≡ Is f → form_of target ≡ Is g → (text out : List ℕ) {r : ReadAnswer}
+accepted_by : (source target : ℕ) (f g : Form) → form_of source ≡ Some f → form_of target ≡ Some g → (text out : List ℕ) {r : ReadAnswer}
     {after : List ℕ} → ConvertPromise source target text out r after → r.answer.number ≡ 0
     → Accepted source target f g text out r.answer after
 accepted_by source target f g is_source is_target text out {r} p z =
@@ -884,7 +883,7 @@ joined_respelt form s t words₁ words₂ within p₁ z₁ p₂ z₂ =
 -- number at the same element. The one premise is the limit, so that what was written is read again; the room is the same. The third may
 -- be any number, also no form's: then both give 11.
 module _ (source second third : ℕ) (text out last : List ℕ) where
-  both_11 : (s : List ℕ) (f g : Form) → form_of source ≡ Is f → form_of second ≡ Is g → NoForm third
+  both_11 : (s : List ℕ) (f g : Form) → form_of source ≡ Some f → form_of second ≡ Some g → NoForm third
       → SameConversion (convert_answer source third text (length last)) (convert_answer second third s (length last))
       (convert_text source third text last) (convert_text second third s last)
   both_11 s f g q p n =
@@ -901,20 +900,20 @@ module _ (source second third : ℕ) (text out last : List ℕ) where
       s : List ℕ
       s = take r.answer.count after
 
-      b : ((f : Form) × (form_of source ≡ Is f)) × ((g : Form) × (form_of second ≡ Is g))
+      b : ((f : Form) × (form_of source ≡ Some f)) × ((g : Form) × (form_of second ≡ Some g))
       b = between_forms source second text out p (omega arith)
 
       w : Accepted source second b.0.0 b.1.0 text out r.answer after
       w = accepted_by source second b.0.0 b.1.0 b.0.1 b.1.1 text out p z
 
-      go : (x : FormFound) → form_of third ≡ x
+      go : (x : Option Form) → form_of third ≡ x
           → SameConversion (convert_answer source third text (length last)) (convert_answer second third s (length last))
           (convert_text source third text last) (convert_text second third s last)
-      go (Is h) q =
+      go (Some h) q =
           composes source second third b.0.0 b.1.0 h b.0.1 b.1.1 q text s last w.converted.meaning
           w.converted.within l w.converted.means
           (subst (λ (u : List ℕ). RunOf (CanonicalElement b.1.0) u w.converted.meaning) (sym w.wrote) w.converted.canonical)
-      go Nothing q = both_11 s b.0.0 b.1.0 b.0.1 b.1.1 ((none_exactly third).0 q)
+      go None q = both_11 s b.0.0 b.1.0 b.0.1 b.1.1 ((none_exactly third).0 q)
 
 -- ======== Document 02, No. 5: what a reading carries, and a conversion
 
@@ -952,7 +951,7 @@ module _ (source target : ℕ) (text out : List ℕ) {r : ReadAnswer} {after : L
       (accepts, accepted_carries _ _ p.0 z ∙ sym (accepted_carries _ _ q accepts))
 
   -- It is exactly the pieces of the run that the text is which are not canonical,
-  pub convert_counts : r.answer.number ≡ 0 → (f : Form) → form_of source ≡ Is f → {ps : List (List ℕ)} {es : List Element}
+  pub convert_counts : r.answer.number ≡ 0 → (f : Form) → form_of source ≡ Some f → {ps : List (List ℕ)} {es : List Element}
       → Run (Spells f) text ps es → (k : ℕ) → (r.respelled ≡ k) ↔ Apart (CanonicalElement f) ps es k
   convert_counts z f q run k =
       let c = accepted_carries _ _ p.0 z ∙ respelled.respelled_is source f q text in
@@ -975,7 +974,7 @@ module _ (source target : ℕ) (text out : List ℕ) {r : ReadAnswer} {after : L
       → (r.respelled ≡ 0) ↔ ((q.answer.number ≡ 0) × (take q.answer.count again ≡ text))
   had_back z l back room {q} {again} p' = (forth, λ h. fifth ∙ respelled.respelled_canonical f (canonical h).1)
     where
-      b : ((f : Form) × (form_of source ≡ Is f)) × ((g : Form) × (form_of target ≡ Is g))
+      b : ((f : Form) × (form_of source ≡ Some f)) × ((g : Form) × (form_of target ≡ Some g))
       b = between_forms source target text out p (omega arith)
 
       f : Form
@@ -1014,7 +1013,7 @@ module _ (source target : ℕ) (text out : List ℕ) {r : ReadAnswer} {after : L
   refused_carries_0 = refused_carries _ _ p.0
 
 -- the number of a text behind one that is read, by the number of its form
-joined_in : (form : ℕ) (f : Form) → form_of form ≡ Is f → (s t : List ℕ) (es : List Element) → RunOf (Spells f) s es
+joined_in : (form : ℕ) (f : Form) → form_of form ≡ Some f → (s t : List ℕ) (es : List Element) → RunOf (Spells f) s es
     → respelled_in form (s ++ t) ≡ respelled_in form s + respelled_in form t
 joined_in form f q s t es r =
     respelled.respelled_is form f q (s ++ t)
@@ -1038,11 +1037,11 @@ joined_carries source target s t within out₁ out₂ out p₁ z₁ p₂ z₂ ro
 -- ======== Document 02, No. 6: control sequences with the top bit set
 
 -- what comes of a number's form is the same where it is the same in each form
-same_in : {A : Type 0} (y : FormFound) (x : A) (k l : Form → A) → ((g : Form) → k g ≡ l g) → in_form y x k ≡ in_form y x l
-same_in (Is g) x k l h = h g
-same_in Nothing x k l h = refl
+same_in : {A : Type 0} (y : Option Form) (x : A) (k l : Form → A) → ((g : Form) → k g ≡ l g) → in_form y x k ≡ in_form y x l
+same_in (Some g) x k l h = h g
+same_in None x k l h = refl
 
-module _ (form : ℕ) (f : Form) (is_form : form_of form ≡ Is f) {s t : List ℕ} (raised : Raised f s t) where
+module _ (form : ℕ) (f : Form) (is_form : form_of form ≡ Some f) {s t : List ℕ} (raised : Raised f s t) where
   -- A text with any octets 21 to 7E of its sequences, behind their 9B, put into the upper half reads to the same words, or is refused with
   -- the same number at the same element and octet;
   pub raised_reads : (words : List ℕ) {q r : ReadAnswer} {w v : List ℕ} → ReadPromise form s words q w → ReadPromise form t words r v

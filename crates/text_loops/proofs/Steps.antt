@@ -7,15 +7,17 @@ use mathlib.Core.List.{List, [], ◌∷◌}
 use native.Mathlib.Omega.{arith}
 use lib.ListN.{length, take, drop, get_or, length-drop}
 use borrow.Author.Tests.{le-leb}
+use Rattle.run.specs.Choice.{pick}
 use Rattle.run.specs.Loops.{Filled}
 use Rattle.run.specs.Head.{Head, element, refused, none}
 use Rattle.run.specs.Tagged.{tag_head}
 use Rattle.run.specs.declared.Answer.{Answer}
 use Rattle.run.specs.Answers.{answer, count_of, RoomFor}
 use Rattle.run.proofs.FromPlace.{at_place}
-use Rattle.run.proofs.Puts.{put_length}
-use Rattle.run.proofs.Loops.{count_stop, count_end, count_turn, fill_never}
-use Rattle.run.proofs.Before.{counted_end, counted_stop, taken_end, taken_stop}
+use Rattle.run.specs.Put.{Put, what_fits}
+use Rattle.run.proofs.Puts.{put_length, put_fits}
+use Rattle.run.proofs.Loops.{count_onward, count_stop, count_end, count_turn, fill_small, fill_onward, fill_room, fill_turn, fill_never}
+use Rattle.run.proofs.Before.{counted_end, counted_stop}
 use Rattle.sorts.specs.declared.Form.{Form}
 use Rattle.sorts.specs.declared.Sort.{Sort}
 use Rattle.sorts.specs.declared.Sort.TheVariants.{Graphic}
@@ -32,10 +34,10 @@ use Rattle.element_reading.specs.ElementHead.{head_in, canonical_head, head_sort
 use Rattle.element_reading.proofs.Reader.{reads, refuses_exactly_by}
 use Rattle.element_reading.proofs.Places.{reading_number}
 use Rattle.text_loops.specs.declared.Measured.{Measured}
-use Rattle.text_loops.specs.Fronts.{read_in, measured, step_answer_after, ReadInto}
-use Rattle.text_loops.specs.LawWords.{HereStands, RefusedStep, CountedBoth, TakenBoth}
+use Rattle.text_loops.specs.Fronts.{read_in, measured, step_answer_after}
+use Rattle.text_loops.specs.LawWords.{HereStands, RefusedStep, CountedBoth}
 use Rattle.text_loops.proofs.FewWords.{few_words, counted_fits}
-use Rattle.text_loops.proofs.Tallied.{told_here, told_stands, stands_told, tally_stop, tally_end}
+use Rattle.text_loops.proofs.Tallied.{told_here, told_stands, stands_told, tally_small, tally_turn, tally_stop, tally_end}
 
 -- ---- a step that is an element
 
@@ -99,6 +101,64 @@ module _ (f : Form) (text : List ℕ) (at : ℕ) where
   step_refused x q o l =
       subst (RefusedStep f text at) (sym q) (refuses_by (head_in f (drop at text)) refl (λ e k b z. o e k b (q ∙ z)) l)
 
+-- ---- what the passes of reading know at a place
+
+module _ (f : Form) (text : List ℕ) where
+  -- measuring: the numbers, none of which is above the place
+  pub record Measuring (at n count k : ℕ) : Type 0 where
+    pub both : CountedBoth f text at n count k
+    pub inside : at ≤ length text
+    pub elements : n ≤ at
+    pub words : count ≤ at
+    pub respelled : k ≤ n
+
+  pub measuring : {at n count k : ℕ} → CountedBoth f text at n count k → Measuring at n count k
+  measuring was =
+      let fits = counted_fits f text was.counted in
+      record { both = was; inside = fits.2; elements = fits.0; words = fits.1; respelled = (tally_small f text was.tallied).0 }
+
+  -- behind an element that a step reads
+  pub behind_element : {at n count k size r : ℕ} {e : Element} {next : ℕ} {b : Bool} → CountedBoth f text at n count k
+      → step_at f text at ≡ Read e next b → size ≡ length (words_of e) → r ≡ pick b 0 1
+      → (at < next) × CountedBoth f text next (n + 1) (count + size) (k + r)
+  behind_element {at} {e = e} {next} {b} was is size r =
+      let h = here f text at e next b is in (
+        omega (arith, count_onward (reads f) (few_words f) text was.counted h.here, h.onward),
+        record {
+          counted = count_turn (reads f) (few_words f) text was.counted h.here h.onward size;
+          tallied = tally_turn f text was.tallied (told_here f text at e next b is) r;
+        },
+      )
+
+  -- filling: what stands in the buffer, and so the place in it
+  module _ (l₀ : List ℕ) where
+    pub record Filling (at o : ℕ) (l : List ℕ) : Type 0 where
+      pub filled : Filled (head_in f) words_of 34 text l₀ at o l
+      pub inside : at ≤ length text
+      pub within : o ≤ length l₀
+      pub size : length l ≡ length l₀
+
+    module _ (room : RoomFor words_of (length l₀) (read_in f text)) where
+      pub filling : {at o : ℕ} {l : List ℕ} → Filled (head_in f) words_of 34 text l₀ at o l → Filling at o l
+      filling was =
+          record {
+            filled = was;
+            inside = was.passed.inside;
+            within = fill_small (reads f) (few_words f) text l₀ room was;
+            size = put_length was.put;
+          }
+
+      -- behind an element that a step reads
+      pub filled_element : {at o o' : ℕ} {l l' : List ℕ} {e : Element} {next : ℕ} {b : Bool}
+          → Filled (head_in f) words_of 34 text l₀ at o l → step_at f text at ≡ Read e next b
+          → Put l o (what_fits l o (words_of e)) l' o' → (at < next) × Filled (head_in f) words_of 34 text l₀ next o' l'
+      filled_element {at} {e = e} {next} {b} was is put =
+          let h = here f text at e next b is in
+          let room_here = fill_room (reads f) (few_words f) text l₀ room was h.here in (
+            omega (arith, fill_onward (reads f) (few_words f) text l₀ room was h.here, h.onward),
+            fill_turn (reads f) (few_words f) text l₀ room was h.here h.onward (put_fits (words_of e) room_here put),
+          )
+
 -- ---- the ways out of the loops over a text
 
 -- an answer, so many words, and so many elements that were not canonical
@@ -121,26 +181,6 @@ module _ (f : Form) (text : List ℕ) where
   read_end was h =
       measured_as_lem (count_end (reads f) (few_words f) text was.counted h) (counted_end (reads f) (few_words f) text was.counted h)
       (tally_end f text was.tallied h)
-
-  -- the same of a loop that puts each element's words as it goes: what has room for a word of each octet has room for them
-  module _ {into l : List ℕ} {at n o k : ℕ} (was : TakenBoth f text into at n o k l) where
-    both : CountedBoth f text at n o k
-    both = record { counted = was.taken.counted; tallied = was.tallied }
-
-    pub into_room : {e : Element} {next : ℕ} → length text ≤ length into → HereStands (head_in f (drop at text)) at e next
-        → o + length (words_of e) ≤ length l
-    into_room h x =
-        let behind = count_turn (reads f) (few_words f) text was.taken.counted x.here x.onward refl in
-        omega (arith, counted_fits f text behind, put_length was.taken.put)
-
-    pub into_stop : {a : Answer} (x : Step) → x ≡ step_at f text at → NotRead x → at < length text
-        → a ≡ step_answer_after n x → ReadInto f text into (measured_as a o k) l
-    into_stop x q i h e =
-        let r = step_refused f text at x q i h in
-        record { measures = read_stop x both q i h e; puts = taken_stop (reads f) (few_words f) text was.taken r.here }
-
-    pub into_end : length text ≤ at → ReadInto f text into (measured_as (answer 0 n at o) o k) l
-    into_end h = record { measures = read_end both h; puts = taken_end (reads f) (few_words f) text was.taken h }
 
   -- an accepted text has an element at each place before its end
   pub read_never : (words : List ℕ) (room : RoomFor words_of (length words) (read_in f text)) {at o : ℕ} {l : List ℕ} (x : Step)

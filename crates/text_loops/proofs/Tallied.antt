@@ -21,8 +21,7 @@ use Rattle.run.proofs.Before.{counted_end, counted_stop}
 use Rattle.run.proofs.Tags.{element_of, tagged_reads}
 use Rattle.run.proofs.Tallies.{noted_size, noted_few, tally_most}
 use Rattle.sorts.specs.declared.Form.{Form}
-use Rattle.sorts.specs.declared.Octet.{Octet}
-use Rattle.sorts.specs.declared.Octet.TheVariants.{Is, Absent}
+use Rattle.std.specs.Prelude.{Option, Some, None}
 use Rattle.sorts.specs.Cells.{octet_in}
 use Rattle.sorts.specs.Forms.{alphabet_of}
 use Rattle.spelling.specs.CanonicalSpelling.{Codes, Canonical, IsThat}
@@ -70,9 +69,9 @@ module _ (f : Form) (s : List ℕ) {e : Element} {k : ℕ} {b : Bool} where
 -- ---- what a lent table has is canonical
 
 module _ (f : Form) where
-  chosen_by : (o : ℕ) (x : Octet) → is_written x o ≡ true → IsThat x o
-  chosen_by o (Is w) q = eqb-true o w q
-  chosen_by o Absent q = tt
+  chosen_by : (o : ℕ) (x : Option ℕ) → is_written x o ≡ true → IsThat x o
+  chosen_by o (Some w) q = eqb-true o w q
+  chosen_by o None q = tt
 
   -- an octet that is written for its character
   pub written_canonical : (o c : ℕ) → WrittenOctet f o c → is_canonical f (o ∷ []) (One c) ≡ true

@@ -8,12 +8,13 @@ ghost use Rattle.squares.specs.Squares.{square_table};
 ghost use Rattle.lent_tables.specs.CodeTables.{code_table};
 ghost use Rattle.element_words.specs.Words.{words_of};
 ghost use Rattle.text_loops.specs.RunsAndPairs.{spacing_words, pair_word};
-ghost use Rattle.text_loops.specs.Fronts.{read_in, measured, is_wanted, ReadInto, short};
+ghost use Rattle.text_loops.specs.Fronts.{read_in, measured, is_wanted};
 ghost use Rattle.text_loops.specs.Promises.{StepAnswerPromise, MeasureFrontPromise, ReadFrontPromise};
 
 use element_reading::Step;
+use lent_tables::Reader;
 use run::Answer;
-use sorts::{Form, Sort};
+use sorts::Form;
 
 // What was read of a text, up to its end or its first fault.
 #[derive(Clone, Copy)]
@@ -25,9 +26,6 @@ pub struct Measured {
     // how many of these elements did not stand in their canonical spelling
     pub respelled: usize,
 }
-
-// A text of fewer octets is read without tables: making them would cost more than reading it.
-const SHORT: usize = 12;
 
 // From here on no form has an octet for the character of a pair: the pair is its canonical spelling. Below stands what no pair spells, and
 // the characters of ASCII, which are read as elements.
@@ -63,236 +61,149 @@ pub fn step_answer(step: Step, n: usize) -> Answer
     }
 }
 
-// How many octets from `at` on, at most `most`, stand before the first that is no spacing character by itself.
-fn run_within(codes: &[u16; 256], text: &[u8], at: usize, most: usize) -> usize
-    requires { at + most ≤ length text.now }
-    ensures { result ≡ length (spacing_words codes.now most (drop at text.now)) }
+// How many octets stand before the first that is no spacing character by itself.
+fn run_within(reader: &Reader, octets: &[u8]) -> usize
+    ensures inside { result ≤ length octets.now }
+    ensures counted { result ≡ length (spacing_words (code_table reader.now) (length octets.now) octets.now) }
 {
-    let mut i = 0;
-    while i < most {
-        if lent_tables::NO_CHARACTER <= lent_tables::code_in(codes, text[at + i]) {
+    for i in 0..octets.len() {
+        if lent_tables::NO_CHARACTER <= reader.code(octets[i]) {
             return i;
         }
-        i += 1;
     }
-    i
+    octets.len()
 }
 
 // The same of sixteen octets, or of what is left of the text: a loop of known length, so that the compiler unrolls it.
-fn spacing_run(codes: &[u16; 256], text: &[u8], at: usize) -> usize
+fn spacing_run(reader: &Reader, text: &[u8], at: usize) -> usize
     requires { at ≤ length text.now }
-    ensures { result ≡ length (spacing_words codes.now 16 (drop at text.now)) }
+    ensures inside { at + result ≤ length text.now }
+    ensures counted { result ≡ length (spacing_words (code_table reader.now) 16 (drop at text.now)) }
 {
-    let left = text.len() - at;
-    if left < 16 {
-        return run_within(codes, text, at, left);
+    let left = &text[at..];
+    if left.len() < 16 {
+        return run_within(reader, left);
     }
-    run_within(codes, text, at, 16)
+    run_within(reader, &left[..16])
 }
 
 // Writes what `run_within` counts: each octet's character, from `o` on.
-fn put_within(
-    codes: &[u16; 256],
-    text: &[u8],
-    at: usize,
-    words: &mut [u32],
-    o: usize,
-    most: usize,
-) -> usize
-    requires inside { at + most ≤ length text.now }
-    requires room { o + length (spacing_words codes.now most (drop at text.now)) ≤ length words.old }
-    ensures { (result ≡ length (spacing_words codes.now most (drop at text.now))) × Put words.old o (spacing_words codes.now most (drop at text.now)) words.new (o + result) }
+fn put_within(reader: &Reader, octets: &[u8], words: &mut [u32], o: usize) -> usize
+    requires { o + length (spacing_words (code_table reader.now) (length octets.now) octets.now) ≤ length words.old }
+    ensures inside { result ≤ length octets.now }
+    ensures counted { result ≡ length (spacing_words (code_table reader.now) (length octets.now) octets.now) }
+    ensures put { Put words.old o (spacing_words (code_table reader.now) (length octets.now) octets.now) words.new (o + result) }
 {
-    let mut i = 0;
-    while i < most {
-        let w = lent_tables::code_in(codes, text[at + i]);
+    for i in 0..octets.len() {
+        let w = reader.code(octets[i]);
         if lent_tables::NO_CHARACTER <= w {
             return i;
         }
         words[o + i] = w;
-        i += 1;
     }
-    i
+    octets.len()
 }
 
 // Writes what `spacing_run` counts.
-fn put_run(codes: &[u16; 256], text: &[u8], at: usize, words: &mut [u32], o: usize) -> usize
+fn put_run(reader: &Reader, text: &[u8], at: usize, words: &mut [u32], o: usize) -> usize
     requires inside { at ≤ length text.now }
-    requires room { o + length (spacing_words codes.now 16 (drop at text.now)) ≤ length words.old }
-    ensures { (result ≡ length (spacing_words codes.now 16 (drop at text.now))) × Put words.old o (spacing_words codes.now 16 (drop at text.now)) words.new (o + result) }
+    requires room { o + length (spacing_words (code_table reader.now) 16 (drop at text.now)) ≤ length words.old }
+    ensures within { at + result ≤ length text.now }
+    ensures counted { result ≡ length (spacing_words (code_table reader.now) 16 (drop at text.now)) }
+    ensures put { Put words.old o (spacing_words (code_table reader.now) 16 (drop at text.now)) words.new (o + result) }
 {
-    let left = text.len() - at;
-    if left < 16 {
-        return put_within(codes, text, at, words, o, left);
+    let left = &text[at..];
+    if left.len() < 16 {
+        return put_within(reader, left, words, o);
     }
-    put_within(codes, text, at, words, o, 16)
+    put_within(reader, &left[..16], words, o)
 }
 
 // The character of the pair at a place, a mark and its listed follower: 0 where there is none.
-fn pair_at(codes: &[u16; 256], squares: &[[u16; 53]; 13], text: &[u8], at: usize) -> u32
+fn pair_at(reader: &Reader, text: &[u8], at: usize) -> u32
     requires { at ≤ length text.now }
-    ensures { result ≡ pair_word codes.now squares.now (drop at text.now) }
+    ensures { result ≡ pair_word (code_table reader.now) square_table (drop at text.now) }
 {
     if text.len() - at < 2 {
         return 0;
     }
-    lent_tables::paired_in(squares, lent_tables::code_in(codes, text[at]), text[at + 1])
+    reader.pair(reader.code(text[at]), text[at + 1])
 }
 
-// The first pass of reading: how far it comes, as with room enough. Spacing characters go by the run and pairs by the lent tables; what is
-// neither is read as an element.
-fn measure_by_tables(
-    form: Form,
-    codes: &[u16; 256],
-    squares: &[[u16; 53]; 13],
-    text: &[u8],
-) -> Measured
-    requires { (codes.now ≡ code_table form) × (squares.now ≡ square_table) }
-    ensures { result ≡ measured form text.now }
+// The first pass of reading: how far it comes, as with room enough. Spacing characters go by the run and pairs by the reader's tables; what
+// is neither is read as an element.
+fn measure_by_tables(reader: &Reader, text: &[u8]) -> Measured
+    ensures { result ≡ measured reader.now text.now }
 {
     let mut at = 0;
     let mut n = 0;
     let mut count = 0;
     let mut respelled = 0;
     while at < text.len() {
-        let k = spacing_run(codes, text, at);
+        let k = spacing_run(reader, text, at);
         at += k;
         n += k;
         count += k;
-        if k < 16 {
-            if at < text.len() {
-                let x = pair_at(codes, squares, text, at);
-                if PAIRS_FROM <= x {
-                    at += 2;
-                    n += 1;
-                    count += 1;
-                } else {
-                    let step = element_reading::element_at(form, text, at);
-                    let Step::Element(e, next, canonical) = step else {
-                        let answer = step_answer(step, n);
-                        return Measured {
-                            answer,
-                            words: count,
-                            respelled,
-                        };
+        if k < 16 && at < text.len() {
+            let x = pair_at(reader, text, at);
+            if PAIRS_FROM <= x {
+                at += 2;
+                n += 1;
+                count += 1;
+            } else {
+                let step = element_reading::element_at(reader.form(), text, at);
+                let Step::Element(e, next, canonical) = step else {
+                    return Measured {
+                        answer: step_answer(step, n),
+                        words: count,
+                        respelled,
                     };
-                    at = next;
-                    n += 1;
-                    count += element_words::words_in(e);
-                    respelled += canonical_tests::not_canonical(canonical);
-                }
+                };
+                n += 1;
+                count += element_words::words_in(e);
+                respelled += canonical_tests::not_canonical(canonical);
+                at = next;
             }
         }
     }
-    let answer = Answer {
-        number: 0,
-        element: n,
-        place: at,
-        count,
-    };
     Measured {
-        answer,
+        answer: Answer {
+            number: 0,
+            element: n,
+            place: at,
+            count,
+        },
         words: count,
         respelled,
     }
 }
 
 // The second pass of reading, where the text is accepted and there is room.
-fn fill_by_tables(
-    form: Form,
-    codes: &[u16; 256],
-    squares: &[[u16; 53]; 13],
-    text: &[u8],
-    words: &mut [u32],
-)
-    requires lent { (codes.now ≡ code_table form) × (squares.now ≡ square_table) }
-    requires room { RoomFor words_of (length words.old) (read_in form text.now) }
-    ensures { words.new ≡ written_of words_of words.old (read_in form text.now) }
+fn fill_by_tables(reader: &Reader, text: &[u8], words: &mut [u32])
+    requires { RoomFor words_of (length words.old) (read_in reader.now text.now) }
+    ensures { words.new ≡ written_of words_of words.old (read_in reader.now text.now) }
 {
     let mut at = 0;
     let mut o = 0;
     while at < text.len() {
-        let k = put_run(codes, text, at, words, o);
+        let k = put_run(reader, text, at, words, o);
         at += k;
         o += k;
-        if k < 16 {
-            if at < text.len() {
-                let x = pair_at(codes, squares, text, at);
-                if x != 0 {
-                    words[o] = x;
-                    at += 2;
-                    o += 1;
-                } else {
-                    let step = element_reading::element_at(form, text, at);
-                    let Step::Element(e, next, _) = step else {
-                        return;
-                    };
-                    o = element_words::put_words(e, words, o);
-                    at = next;
-                }
+        if k < 16 && at < text.len() {
+            let x = pair_at(reader, text, at);
+            if x != 0 {
+                words[o] = x;
+                at += 2;
+                o += 1;
+            } else {
+                let step = element_reading::element_at(reader.form(), text, at);
+                let Step::Element(e, next, _) = step else {
+                    return;
+                };
+                o = element_words::put_words(e, words, o);
+                at = next;
             }
         }
-    }
-}
-
-// Reads a text in one pass, without tables, into a buffer that has an entry for each octet: how far it comes, and the words up to there. A
-// spacing character goes past the element's answer, and is what it would be.
-fn read_by_elements(form: Form, text: &[u8], into: &mut [u32]) -> Measured
-    requires { length text.now ≤ length into.old }
-    ensures { ReadInto form text.now into.old result into.new }
-{
-    let mut at = 0;
-    let mut elements = 0;
-    let mut filled = 0;
-    let mut respelled = 0;
-    while at < text.len() {
-        let o = text[at];
-        let sort = sorts::sort_in(form, o);
-        if let Sort::Graphic(c) = sort {
-            into[filled] = c;
-            filled += 1;
-            at += 1;
-            elements += 1;
-            let canonical = canonical_tests::word_is_canonical(form, c, o, 1);
-            respelled += canonical_tests::not_canonical(canonical);
-        } else {
-            let step = element_reading::element_at(form, text, at);
-            let Step::Element(e, next, canonical) = step else {
-                let answer = step_answer(step, elements);
-                return Measured {
-                    answer,
-                    words: filled,
-                    respelled,
-                };
-            };
-            filled = element_words::put_words(e, into, filled);
-            at = next;
-            elements += 1;
-            respelled += canonical_tests::not_canonical(canonical);
-        }
-    }
-    let answer = Answer {
-        number: 0,
-        element: elements,
-        place: at,
-        count: filled,
-    };
-    Measured {
-        answer,
-        words: filled,
-        respelled,
-    }
-}
-
-// Copies the first `count` of some words, from `o` on.
-fn put_first(first: &[u32], count: usize, words: &mut [u32], o: usize)
-    requires { (count ≤ length first.now) × (o + count ≤ length words.old) }
-    ensures { Put words.old o (take count first.now) words.new (o + count) }
-{
-    let mut i = 0;
-    while i < count {
-        words[o + i] = first[i];
-        i += 1;
     }
 }
 
@@ -300,66 +211,14 @@ fn put_first(first: &[u32], count: usize, words: &mut [u32], o: usize)
 pub fn measure_front(form: Form, text: &[u8]) -> Measured
     ensures { MeasureFrontPromise form text.now result }
 {
-    if text.len() < SHORT {
-        let mut first = [0; SHORT];
-        return read_by_elements(form, text, &mut first);
-    }
-    let codes = lent_tables::code_table(form);
-    let squares = squares::square_table();
-    measure_by_tables(form, &codes, &squares, text)
+    measure_by_tables(&Reader::of_form(form), text)
 }
 
 // Whether what was measured is asked for, and a buffer of `room` entries holds its words from `o` on.
 fn is_wanted(m: Measured, room: usize, o: usize, whole: bool) -> bool
     ensures { result ≡ is_wanted m room o whole }
 {
-    if room < o {
-        return false;
-    }
-    if room - o < m.words {
-        return false;
-    }
-    if whole {
-        let answer = m.answer;
-        return answer.number == 0;
-    }
-    true
-}
-
-// Reads a short text: straight into the buffer, where that has room for a word of each octet and no whole text is wanted; else through an
-// array of its own.
-fn read_short(form: Form, text: &[u8], words: &mut [u32], o: usize, whole: bool) -> Measured
-    requires { length text.now ≤ short }
-    ensures { ReadFrontPromise form text.now words.old o whole result words.new }
-{
-    if !whole {
-        if o <= words.len() {
-            if text.len() <= words.len() - o {
-                return read_by_elements(form, text, &mut words[o..]);
-            }
-        }
-    }
-    let mut first = [0; SHORT];
-    let m = read_by_elements(form, text, &mut first);
-    if is_wanted(m, words.len(), o, whole) {
-        put_first(&first, m.words, words, o);
-    }
-    m
-}
-
-// Reads a text by the tables of its form, which are made once for both passes.
-fn read_long(form: Form, text: &[u8], words: &mut [u32], o: usize, whole: bool) -> Measured
-    ensures { ReadFrontPromise form text.now words.old o whole result words.new }
-{
-    let codes = lent_tables::code_table(form);
-    let squares = squares::square_table();
-    let m = measure_by_tables(form, &codes, &squares, text);
-    if is_wanted(m, words.len(), o, whole) {
-        let answer = m.answer;
-        let end = answer.place;
-        fill_by_tables(form, &codes, &squares, &text[..end], &mut words[o..]);
-    }
-    m
+    o <= room && m.words <= room - o && (!whole || m.answer.number == 0)
 }
 
 // Reads a text up to its end or its first fault: how far it came, and the words up to there, from `o` on, where all of them fit. Where only
@@ -367,8 +226,10 @@ fn read_long(form: Form, text: &[u8], words: &mut [u32], o: usize, whole: bool) 
 pub fn read_front(form: Form, text: &[u8], words: &mut [u32], o: usize, whole: bool) -> Measured
     ensures { ReadFrontPromise form text.now words.old o whole result words.new }
 {
-    if text.len() < SHORT {
-        return read_short(form, text, words, o, whole);
+    let reader = Reader::of_form(form);
+    let m = measure_by_tables(&reader, text);
+    if is_wanted(m, words.len(), o, whole) {
+        fill_by_tables(&reader, &text[..m.answer.place], &mut words[o..]);
     }
-    read_long(form, text, words, o, whole)
+    m
 }

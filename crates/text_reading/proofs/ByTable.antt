@@ -14,8 +14,7 @@ use Rattle.run.specs.Head.{Outcome, accepted, refusal}
 use Rattle.run.specs.declared.Answer.{Answer}
 use Rattle.run.specs.Answers.{answer, bare, short_room, given, answer_of, written_of, over}
 use Rattle.sorts.specs.declared.Form.{Form}
-use Rattle.sorts.specs.declared.FormFound.{FormFound}
-use Rattle.sorts.specs.declared.FormFound.TheVariants.{Is, Nothing}
+use Rattle.std.specs.Prelude.{Option, Some, None}
 use Rattle.sorts.specs.Forms.{form_of, in_form}
 use Rattle.text_reading.specs.ReadAnswers.{within_limit}
 use Rattle.text_reading.specs.ReadingNumbers.{limit, Answered, Formed, Tells}
@@ -81,11 +80,11 @@ module _ {A : Type 0} (gives : A → List ℕ) (Runs : List A → Type 0) (Fault
 module _ (form : ℕ) (buffer : List ℕ) (Inside : Form → Answer → List ℕ → Type 0) (k : Form → Answer) (l : Form → List ℕ)
     (inside : (f : Form) (a : Answer) (after : List ℕ) → ((k f ≡ a) × (l f ≡ after)) ↔ Inside f a after) where
   -- in a form, what is answered is what the table says inside it
-  pub in_its_form : (f : Form) → form_of form ≡ Is f → Inside f (in_form (form_of form) (bare 11) k) (in_form (form_of form) buffer l)
+  pub in_its_form : (f : Form) → form_of form ≡ Some f → Inside f (in_form (form_of form) (bare 11) k) (in_form (form_of form) buffer l)
   in_its_form f q = (inside f _ _).0 (a_form _ _ _ _ _ q refl, a_form _ _ _ _ _ q refl)
 
   -- 11 exactly where the number is no form's
-  pub no_form_exactly : ((f : Form) → form_of form ≡ Is f → (k f).number ≡ 11 → ⊥)
+  pub no_form_exactly : ((f : Form) → form_of form ≡ Some f → (k f).number ≡ 11 → ⊥)
       → ((in_form (form_of form) (bare 11) k).number ≡ 11) ↔ NoForm form
   no_form_exactly never = (
     λ e. (none_exactly form).0 (forth (form_of form) refl e),
@@ -93,9 +92,9 @@ module _ (form : ℕ) (buffer : List ℕ) (Inside : Form → Answer → List ℕ
         (sym (no_form _ _ _ ((none_exactly form).1 n))),
   )
     where
-      forth : (y : FormFound) → form_of form ≡ y → (in_form y (bare 11) k).number ≡ 11 → y ≡ Nothing
-      forth (Is f) q e = absurd (never f q e)
-      forth Nothing q e = refl
+      forth : (y : Option Form) → form_of form ≡ y → (in_form y (bare 11) k).number ≡ 11 → y ≡ None
+      forth (Some f) q e = absurd (never f q e)
+      forth None q e = refl
 
   of_formed : {a : Answer} {after : List ℕ} → Formed form buffer Inside a after
       → (in_form (form_of form) (bare 11) k ≡ a) × (in_form (form_of form) buffer l ≡ after)
@@ -107,10 +106,10 @@ module _ (form : ℕ) (buffer : List ℕ) (Inside : Form → Answer → List ℕ
       → ((in_form (form_of form) (bare 11) k ≡ a) × (in_form (form_of form) buffer l ≡ after)) ↔ Formed form buffer Inside a after
   by_form a after = (forth (form_of form) refl, of_formed)
     where
-      forth : (y : FormFound) → form_of form ≡ y → (in_form y (bare 11) k ≡ a) × (in_form y buffer l ≡ after)
+      forth : (y : Option Form) → form_of form ≡ y → (in_form y (bare 11) k ≡ a) × (in_form y buffer l ≡ after)
           → Formed form buffer Inside a after
-      forth (Is f) q e = Formed.of_a_form q ((inside f a after).0 e)
-      forth Nothing q e = subst₂ (Formed form buffer Inside) e.0 e.1 (Formed.no_form ((none_exactly form).0 q))
+      forth (Some f) q e = Formed.of_a_form q ((inside f a after).0 e)
+      forth None q e = subst₂ (Formed form buffer Inside) e.0 e.1 (Formed.no_form ((none_exactly form).0 q))
 
 -- ---- the number tells the row
 

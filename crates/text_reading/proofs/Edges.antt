@@ -10,8 +10,7 @@ use Rattle.run.specs.declared.Answer.{Answer}
 use Rattle.run.specs.declared.ReadAnswer.{ReadAnswer}
 use Rattle.run.specs.Answers.{bare, short_room, carrying}
 use Rattle.sorts.specs.declared.Form.{Form}
-use Rattle.sorts.specs.declared.FormFound.{FormFound}
-use Rattle.sorts.specs.declared.FormFound.TheVariants.{Is, Nothing}
+use Rattle.std.specs.Prelude.{Option, Some, None}
 use Rattle.text_reading.specs.ReadAnswers.{within_limit}
 use Rattle.text_reading.specs.ReadingNumbers.{limit}
 use Rattle.text_reading.specs.LawWords.{Asked}
@@ -19,12 +18,12 @@ use Rattle.sorts.specs.Forms.{in_form}
 
 module _ {A : Type 0} where
   -- no form has the number
-  pub no_form : (y : FormFound) (x : A) (k : Form → A) → y ≡ Nothing → x ≡ in_form y x k
-  no_form y x k q = sym (ap (λ (z : FormFound). in_form z x k) q)
+  pub no_form : (y : Option Form) (x : A) (k : Form → A) → y ≡ None → x ≡ in_form y x k
+  no_form y x k q = sym (ap (λ (z : Option Form). in_form z x k) q)
 
   -- a form has it
-  pub a_form : (y : FormFound) (f : Form) (x a : A) (k : Form → A) → y ≡ Is f → a ≡ k f → a ≡ in_form y x k
-  a_form y f x a k q e = e ∙ sym (ap (λ (z : FormFound). in_form z x k) q)
+  pub a_form : (y : Option Form) (f : Form) (x a : A) (k : Form → A) → y ≡ Some f → a ≡ k f → a ≡ in_form y x k
+  a_form y f x a k q e = e ∙ sym (ap (λ (z : Option Form). in_form z x k) q)
 
   pub over : (input : List ℕ) (x a : A) → limit < length input → x ≡ within_limit input x a
   over input x a h = simp (lt-leb (length input) limit h)
@@ -34,14 +33,14 @@ module _ {A : Type 0} where
 
 -- ---- an answer, and what the lent buffer holds after: 11, then 12, then what is promised in the form
 
-module _ (y : FormFound) (input buffer : List ℕ) (promised : Form → Answer) (held : Form → List ℕ) where
-  pub asked_none : {r : Answer} → r ≡ bare 11 → y ≡ Nothing → Asked y input buffer promised held r buffer
+module _ (y : Option Form) (input buffer : List ℕ) (promised : Form → Answer) (held : Form → List ℕ) where
+  pub asked_none : {r : Answer} → r ≡ bare 11 → y ≡ None → Asked y input buffer promised held r buffer
   asked_none e q = (e ∙ no_form _ _ _ q, no_form _ _ _ q)
 
-  pub asked_over : {r : Answer} {f : Form} → r ≡ bare 12 → y ≡ Is f → limit < length input → Asked y input buffer promised held r buffer
+  pub asked_over : {r : Answer} {f : Form} → r ≡ bare 12 → y ≡ Some f → limit < length input → Asked y input buffer promised held r buffer
   asked_over e q h = (e ∙ a_form _ _ _ _ _ q (over input _ _ h), a_form _ _ _ _ _ q (over input _ _ h))
 
-  pub asked_within : {r : Answer} {after : List ℕ} {f : Form} → (r ≡ promised f) × (after ≡ held f) → y ≡ Is f → length input ≤ limit
+  pub asked_within : {r : Answer} {after : List ℕ} {f : Form} → (r ≡ promised f) × (after ≡ held f) → y ≡ Some f → length input ≤ limit
       → Asked y input buffer promised held r after
   asked_within e q h = (a_form _ _ _ _ _ q (e.0 ∙ within input _ _ h), a_form _ _ _ _ _ q (e.1 ∙ within input _ _ h))
 

@@ -16,8 +16,7 @@ use Rattle.run.specs.Answers.{answer, over, short_room, carrying}
 use Rattle.run.proofs.Answers.{carrying_zero}
 use Rattle.run.proofs.Puts.{put_over, put_fits}
 use Rattle.sorts.specs.declared.Form.{Form}
-use Rattle.sorts.specs.declared.FormFound.{FormFound}
-use Rattle.sorts.specs.declared.FormFound.TheVariants.{Is, Nothing}
+use Rattle.std.specs.Prelude.{Option, Some, None}
 use Rattle.sorts.specs.Forms.{form_of, in_form}
 use Rattle.sorts.proofs.FormNumbers.{none_exactly}
 use Rattle.element_reading.specs.declared.Step.{Step}
@@ -41,14 +40,14 @@ module _ (form : ℕ) (text : List ℕ) (at : ℕ) where
   abbrev Row : Step → Type 0
   Row s = LoneTable form text at (step_reading s) (step_words s)
 
-  by_limit : (f : Form) → form_of form ≡ Is f → (t : Bool) → leb (length text) limit ≡ t → Row (pick t (step_at f text at) (Refused 12 0 0))
+  by_limit : (f : Form) → form_of form ≡ Some f → (t : Bool) → leb (length text) limit ≡ t → Row (pick t (step_at f text at) (Refused 12 0 0))
   by_limit f q true e = LoneTable.one_element q (leb-true _ _ e) ((step_exactly f text at _ _).1 (refl, refl))
   by_limit f q false e = LoneTable.over_limit q (leb-false _ _ e)
 
-  by_form : (y : FormFound) → form_of form ≡ y
+  by_form : (y : Option Form) → form_of form ≡ y
       → Row (in_form y (Refused 11 0 0) (λ f. within_limit text (Refused 12 0 0) (step_at f text at)))
-  by_form (Is f) q = by_limit f q (leb (length text) limit) refl
-  by_form Nothing q = LoneTable.no_form ((none_exactly form).0 q)
+  by_form (Some f) q = by_limit f q (leb (length text) limit) refl
+  by_form None q = LoneTable.no_form ((none_exactly form).0 q)
 
   its_row : Row (lone_step form text at)
   unfolding lone_step
@@ -78,12 +77,12 @@ module _ (form : ℕ) (text : List ℕ) (at : ℕ) where
 
   -- ---- the flag
 
-  lone_is : (f : Form) → form_of form ≡ Is f → lone_step form text at ≡ within_limit text (Refused 12 0 0) (step_at f text at)
+  lone_is : (f : Form) → form_of form ≡ Some f → lone_step form text at ≡ within_limit text (Refused 12 0 0) (step_at f text at)
   unfolding lone_step
   lone_is f q = sym (a_form _ _ _ _ _ q refl)
 
   -- It holds exactly where the octets read are the element's canonical spelling.
-  pub lone_flag : (f : Form) → form_of form ≡ Is f → (e : Element) (next : ℕ) (b : Bool) → ReadElementPromise form text at (Read e next b)
+  pub lone_flag : (f : Form) → form_of form ≡ Some f → (e : Element) (next : ℕ) (b : Bool) → ReadElementPromise form text at (Read e next b)
       → (b ≡ true) ↔ CanonicalElement f (take (next - at) (drop at text)) e
   lone_flag f q e next b promise = go (leb (length text) limit) (promise.0 ∙ lone_is f q)
     where

@@ -12,7 +12,7 @@ use Rattle.run.specs.Answers.{answer_of, roomy_answer}
 use Rattle.run.proofs.Outcomes as outcomes
 use Rattle.run.proofs.Rooms.{as_roomy}
 use Rattle.sorts.specs.declared.Form.{Form}
-use Rattle.sorts.specs.declared.FormFound.TheVariants.{Is}
+use Rattle.std.specs.Prelude.{Some}
 use Rattle.sorts.specs.Forms.{form_of}
 use Rattle.element_words.specs.declared.Element.{Element}
 use Rattle.element_words.specs.Words.{words_of}
@@ -41,7 +41,7 @@ module _ (f : Form) where
   joined = outcomes.joined (reads f)
 
   -- a form's number, and a text within the limit
-  pub read_answers : (form : ℕ) → form_of form ≡ Is f → (text : List ℕ) → length text ≤ limit → (words : List ℕ)
+  pub read_answers : (form : ℕ) → form_of form ≡ Some f → (text : List ℕ) → length text ≤ limit → (words : List ℕ)
       → WholeAnswer words_of (length text) words (read_in f text) (read_answer form text (length words)) (read_words form text words)
   unfolding read_answer read_words
   read_answers form q text l words = (sym (a_form _ _ _ _ _ q (within text _ _ l)), sym (a_form _ _ _ _ _ q (within text _ _ l)))
@@ -52,7 +52,7 @@ pub enough : (f : Form) (text : List ℕ)
 enough f text =
     sym (as_roomy words_of (length text) (length text) (read_in f text) (λ es q. words_fit ((accepted_exactly f text es).0 q).1))
 
-pub measure_is : (form : ℕ) (f : Form) → form_of form ≡ Is f → (text : List ℕ) → length text ≤ limit
+pub measure_is : (form : ℕ) (f : Form) → form_of form ≡ Some f → (text : List ℕ) → length text ≤ limit
     → read_answer form text (length text) ≡ roomy_answer words_of (length text) (read_in f text)
 unfolding read_answer
 measure_is form f q text h = sym (a_form _ _ _ _ _ q (enough f text ∙ within text _ _ h))

@@ -17,7 +17,7 @@ use Rattle.run.proofs.Outcomes.{run_by}
 use Rattle.run.proofs.Answers.{accepted_carries, refused_carries}
 use Rattle.run.proofs.Tallies.{tally_joined, tally_few, apart_exactly, tally_none}
 use Rattle.sorts.specs.declared.Form.{Form}
-use Rattle.sorts.specs.declared.FormFound.TheVariants.{Is}
+use Rattle.std.specs.Prelude.{Some}
 use Rattle.sorts.specs.Forms.{form_of}
 use Rattle.element_words.specs.declared.Element.{Element}
 use Rattle.element_words.specs.Words.{words_of}
@@ -33,7 +33,7 @@ use Rattle.text_reading.proofs.Edges.{a_form}
 use Rattle.text_reading.proofs.ReadTexts.{accepted_exactly, measure_is}
 
 -- a form's number
-pub respelled_is : (form : ℕ) (f : Form) → form_of form ≡ Is f → (text : List ℕ) → respelled_in form text ≡ respelled_before f text
+pub respelled_is : (form : ℕ) (f : Form) → form_of form ≡ Some f → (text : List ℕ) → respelled_in form text ≡ respelled_before f text
 unfolding respelled_in
 respelled_is form f q text = sym (a_form _ _ _ _ _ q refl)
 
@@ -61,7 +61,7 @@ module _ (f : Form) where
   respelled_canonical c = (respelled_none (c.0, run_by (λ p e k. canonical_spells f k) c.1)).1 c
 
 -- a text that is read has it, and no other number is counted so
-pub counts_exactly : (form : ℕ) (f : Form) → form_of form ≡ Is f → (text : List ℕ) {es : List Element} → RunOf (Spells f) text es → (k : ℕ)
+pub counts_exactly : (form : ℕ) (f : Form) → form_of form ≡ Some f → (text : List ℕ) {es : List Element} → RunOf (Spells f) text es → (k : ℕ)
     → (respelled_in form text ≡ k) ↔ NotCanonical form text k
 counts_exactly form f q text {es} r k = (
   λ e.
@@ -80,18 +80,18 @@ counts_exactly form f q text {es} r k = (
 
 module _ (form : ℕ) (text : List ℕ) (room : ℕ) {r : ReadAnswer} (is : r ≡ read_reading form text room) where
   -- An accepted reading carries it,
-  pub reading_carries : (f : Form) → form_of form ≡ Is f → r.answer.number ≡ 0 → r.respelled ≡ respelled_before f text
+  pub reading_carries : (f : Form) → form_of form ≡ Some f → r.answer.number ≡ 0 → r.respelled ≡ respelled_before f text
   reading_carries f q z = accepted_carries _ _ is z ∙ respelled_is form f q text
 
   -- which is exactly the pieces of the run that the text is which are not canonical,
-  pub reading_counts : (f : Form) → form_of form ≡ Is f → r.answer.number ≡ 0 → {ps : List (List ℕ)} {es : List Element}
+  pub reading_counts : (f : Form) → form_of form ≡ Some f → r.answer.number ≡ 0 → {ps : List (List ℕ)} {es : List Element}
       → Run (Spells f) text ps es → (k : ℕ) → (r.respelled ≡ k) ↔ Apart (CanonicalElement f) ps es k
   reading_counts f q z run k =
       let c = reading_carries f q z in
       (λ e. (respelled_exactly f run k).0 (sym c ∙ e), λ a. c ∙ (respelled_exactly f run k).1 a)
 
   -- and 0 exactly where it is the canonical run of its elements;
-  pub reading_none : (f : Form) → form_of form ≡ Is f → r.answer.number ≡ 0 → {es : List Element} → RunOf (Spells f) text es
+  pub reading_none : (f : Form) → form_of form ≡ Some f → r.answer.number ≡ 0 → {es : List Element} → RunOf (Spells f) text es
       → (r.respelled ≡ 0) ↔ RunOf (CanonicalElement f) text es
   reading_none f q z run =
       let c = reading_carries f q z in
@@ -102,7 +102,7 @@ module _ (form : ℕ) (text : List ℕ) (room : ℕ) {r : ReadAnswer} (is : r �
   refusal_carries = refused_carries _ _ is
 
 -- An accepted reading has at most as many as elements.
-pub reading_few : (form : ℕ) (f : Form) → form_of form ≡ Is f → (text : List ℕ) → length text ≤ limit → {r : ReadAnswer}
+pub reading_few : (form : ℕ) (f : Form) → form_of form ≡ Some f → (text : List ℕ) → length text ≤ limit → {r : ReadAnswer}
     → MeasurePromise form text r → {es : List Element} → RunOf (Spells f) text es
     → (r.answer.number ≡ 0) × (r.answer.element ≡ length es) × (r.respelled ≤ r.answer.element)
 reading_few form f q text h {r} is {es} run =

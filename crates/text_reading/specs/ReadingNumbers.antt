@@ -2,14 +2,13 @@
 -- lent buffer holds after; and the fifth, of document 02, of an accepted text (`NotCanonical`). For one element: all five, and its words.
 -- What is read and refused is in the words of the grammar (`Spells`, `Refuses`); nothing here speaks of a reader.
 -- Assumes nothing.
-use Rattle.std.specs.Prelude.{ℕ, ◌≤◌, ◌<◌, ◌≡◌, List, [], length}
+use Rattle.std.specs.Prelude.{ℕ, ◌≤◌, ◌<◌, ◌≡◌, List, [], length, Some}
 use Rattle.run.specs.Grammar.{Run, RunOf, Stopped}
 use Rattle.run.specs.Tally.{Apart}
 use Rattle.run.specs.declared.Answer.{Answer}
 use Rattle.run.specs.declared.ReadAnswer.{ReadAnswer}
 use Rattle.run.specs.Answers.{answer, bare, short_room, count_of, given, over}
 use Rattle.sorts.specs.declared.Form.{Form}
-use Rattle.sorts.specs.declared.FormFound.TheVariants.{Is}
 use Rattle.sorts.specs.Forms.{form_of, NoForm}
 use Rattle.element_words.specs.declared.Element.{Element}
 use Rattle.element_words.specs.Words.{words_of}
@@ -63,7 +62,7 @@ module _ {A : Type 0} (gives : A → List ℕ) (Runs : List A → Type 0) (Fault
 -- 11 goes before
 pub data Formed (form : ℕ) (buffer : List ℕ) (Inside : Form → Answer → List ℕ → Type 0) : Answer → List ℕ → Type 0 where
   no_form : NoForm form → Formed form buffer Inside (bare 11) buffer
-  of_a_form : {f : Form} {a : Answer} {after : List ℕ} → form_of form ≡ Is f → Inside f a after → Formed form buffer Inside a after
+  of_a_form : {f : Form} {a : Answer} {after : List ℕ} → form_of form ≡ Some f → Inside f a after → Formed form buffer Inside a after
 
 -- "Order: 11 (source, then target), 12, reading .., 10, 9."
 abbrev pub ReadTable : ℕ → List ℕ → List ℕ → Answer → List ℕ → Type 0
@@ -73,7 +72,7 @@ ReadTable form text words = Formed form words (λ f. Answered words_of (RunOf (S
 
 pub record NotCanonical (form : ℕ) (text : List ℕ) (k : ℕ) : Type 0 where
   pub the_form : Form
-  pub is_form : form_of form ≡ Is the_form
+  pub is_form : form_of form ≡ Some the_form
   pub pieces : List (List ℕ)
   pub elements : List Element
   pub run : Run (Spells the_form) text pieces elements
@@ -84,9 +83,9 @@ pub record NotCanonical (form : ℕ) (text : List ℕ) (k : ℕ) : Type 0 where
 module _ (form : ℕ) (text : List ℕ) (at : ℕ) where
   pub data LoneTable : ReadAnswer → List ℕ → Type 0 where
     no_form : NoForm form → LoneTable (reading (bare 11) 0) []
-    over_limit : {f : Form} → form_of form ≡ Is f → limit < length text → LoneTable (reading (bare 12) 0) []
+    over_limit : {f : Form} → form_of form ≡ Some f → limit < length text → LoneTable (reading (bare 12) 0) []
     -- "the element and the place after it, or .. its refusal"; "that none is left"
-    one_element : {f : Form} {a : ReadAnswer} {words : List ℕ} → form_of form ≡ Is f → length text ≤ limit → ElementRow f text at a words
+    one_element : {f : Form} {a : ReadAnswer} {words : List ℕ} → form_of form ≡ Some f → length text ≤ limit → ElementRow f text at a words
         → LoneTable a words
 
   -- its words into the words lent, where they fit; 9: "lent room is short": "0; room needed"

@@ -5,7 +5,7 @@ ghost use Rattle.text_reading.specs.Promises.{MeasurePromise, ReadPromise, ReadE
 
 use element_reading::Step;
 use run::{Answer, ReadAnswer};
-use sorts::FormFound;
+use sorts::Form;
 
 // 12: "input over 1,048,576 entries".
 pub const LIMIT: usize = 1048576;
@@ -15,8 +15,7 @@ pub const LIMIT: usize = 1048576;
 pub fn measure(form: u32, text: &[u8]) -> ReadAnswer
     ensures { MeasurePromise form text.now result }
 {
-    let found = sorts::form_of(form);
-    let FormFound::Is(f) = found else {
+    let Ok(f) = Form::try_from(form) else {
         return run::reading_of(run::bare_answer(11), 0);
     };
     if LIMIT < text.len() {
@@ -30,30 +29,27 @@ pub fn measure(form: u32, text: &[u8]) -> ReadAnswer
 pub fn read(form: u32, text: &[u8], words: &mut [u32]) -> ReadAnswer
     ensures { ReadPromise form text.now words.old result words.new }
 {
-    let found = sorts::form_of(form);
-    let FormFound::Is(f) = found else {
+    let Ok(f) = Form::try_from(form) else {
         return run::reading_of(run::bare_answer(11), 0);
     };
     if LIMIT < text.len() {
         return run::reading_of(run::bare_answer(12), 0);
     }
     let m = text_loops::read_front(f, text, words, 0, true);
-    let answer = m.answer;
-    if answer.number != 0 {
-        return run::reading_of(answer, 0);
+    if m.answer.number != 0 {
+        return run::reading_of(m.answer, 0);
     }
     if words.len() < m.words {
         return run::reading_of(run::short_room(m.words), 0);
     }
-    run::reading_of(answer, m.respelled)
+    run::reading_of(m.answer, m.respelled)
 }
 
 // Reads one element. In order: 11, 12, none left, then the element or its refusal.
 pub fn read_element(form: u32, text: &[u8], at: usize) -> Step
     ensures { ReadElementPromise form text.now at result }
 {
-    let found = sorts::form_of(form);
-    let FormFound::Is(f) = found else {
+    let Ok(f) = Form::try_from(form) else {
         return Step::Refused {
             number: 11,
             place: 0,

@@ -1,8 +1,8 @@
 -- Parts of the code: the character that a text begins with, as lent tables read it, which is proved to be what stands at the text's head,
--- canonically (proofs/Characters); what the first pass knows at a place; the answer of a conversion that it refused; the tables that are
--- lent; what a text comes to, and the answer of that.
+-- canonically (proofs/Characters); what the first pass knows at a place; the answer of a conversion that it refused; what a text comes to,
+-- and the answer of that.
 -- Assumes nothing.
-use Rattle.std.specs.Prelude.{ℕ, ◌≡◌, List, [], ◌∷◌, eqb, ltb, length}
+use Rattle.std.specs.Prelude.{ℕ, ◌≡◌, List, [], ◌∷◌, eqb, ltb, length, Option, Some, None}
 use Rattle.run.specs.Choice.{pick}
 use Rattle.run.specs.declared.Answer.{Answer}
 use Rattle.run.specs.declared.ReadAnswer.{ReadAnswer}
@@ -11,9 +11,7 @@ use Rattle.run.specs.Answers.{carrying, answer_of, written_of, roomy_answer, aft
 use Rattle.run.specs.Loops.{Counted}
 use Rattle.run.specs.Speller.{spelt_by}
 use Rattle.sorts.specs.declared.Form.{Form}
-use Rattle.squares.specs.Squares.{square_table}
-use Rattle.spelling_tables.specs.PackedSpellings.{spelling_table}
-use Rattle.lent_tables.specs.CodeTables.{no_character, code_table, code_in, paired_in}
+use Rattle.lent_tables.specs.CodeTables.{no_character, code_in, paired_in}
 use Rattle.element_words.specs.Words.{words_of}
 use Rattle.element_reading.specs.ElementHead.{head_in}
 use Rattle.element_spelling.specs.ElementOctets.{spell_element}
@@ -29,20 +27,20 @@ character c k = record { code = c; size = k }
 abbrev pub pairs_from : ℕ
 pairs_from = 0x80
 
--- the character of a pair: 0 where it is one of ASCII, as the pair is not canonical then in the forms that have an octet for it
-abbrev pub pair_of : ℕ → Character
-pair_of c = character (pick (ltb c pairs_from) 0 c) 2
+-- the character of a pair: none where it is one of ASCII, as the pair is not canonical then in the forms that have an octet for it
+abbrev pub pair_of : ℕ → Option Character
+pair_of c = pick (ltb c pairs_from) None (Some (character c 2))
 
--- of a mark, by its code: 0 where no listed follower stands behind it
-abbrev pub marked_in : List (List ℕ) → ℕ → List ℕ → Character
-marked_in squares code [] = character 0 2
+-- of a mark, by its code: none where no listed follower stands behind it
+abbrev pub marked_in : List (List ℕ) → ℕ → List ℕ → Option Character
+marked_in squares code [] = None
 marked_in squares code (l ∷ s) = pair_of (paired_in squares code l)
 
 -- a spacing character by itself, else a mark's with its follower
-abbrev pub character_in : List ℕ → List (List ℕ) → List ℕ → Character
-character_in codes squares [] = character 0 2
+abbrev pub character_in : List ℕ → List (List ℕ) → List ℕ → Option Character
+character_in codes squares [] = None
 character_in codes squares (o ∷ s) =
-    pick (ltb (code_in codes o) no_character) (character (code_in codes o) 1) (marked_in squares (code_in codes o) s)
+    pick (ltb (code_in codes o) no_character) (Some (character (code_in codes o) 1)) (marked_in squares (code_in codes o) s)
 
 -- measuring: up to the place `at` of a text of the form f stand n elements, which the form g spells with so many octets, and k of which are
 -- not canonical in the form f
@@ -55,10 +53,6 @@ abbrev pub reading_first : Form → List ℕ → Answer → Answer
 reading_first f text a =
     let read = roomy_answer words_of (length text) (read_in f text) in
     pick (eqb read.number 0) a read
-
--- the tables that are lent for a conversion: what each octet of the source is, the squares, and the target's spellings
-abbrev pub Lent : Form → Form → List ℕ → List (List ℕ) → List ℕ → Type 0
-Lent f g codes squares table = (codes ≡ code_table f) × (squares ≡ square_table) × (table ≡ spelling_table g)
 
 -- "reading .., 10": the whole text is read first, and then each element is respelt; `convert_in` of `text`
 abbrev pub respelt_after_reading : Form → Form → List ℕ → Outcome (List ℕ)

@@ -7,7 +7,7 @@ use native.Mathlib.Omega.{arith}
 use lib.ListN.{length}
 use borrow.Author.Tests.{lt-ltb}
 use Rattle.sorts.specs.declared.Form.{Form}
-use Rattle.spelling.specs.CanonicalSpelling.{octets_of}
+use Rattle.spelling.specs.CanonicalSpelling.{spelt_octets}
 use Rattle.spelling.specs.SpellingGiven.{spell_in}
 use Rattle.spelling_tables.specs.PackedSpellings.{spelling_table, packed, packed_in, packed_size, packed_octets}
 use Rattle.spelling_tables.proofs.LentSpellings.{packed_exactly, unpacked, null_unspelt}
@@ -24,7 +24,7 @@ pub record Packed (f : Form) (c p : ℕ) : Type 0 where
   pub small : c < 0x10000
 
 module _ (f : Form) (c p : ℕ) (e : p ≡ packed_in (spelling_table f) c) (n : p ≡ 0 → ⊥) where
-  not_empty : (s : List ℕ) → octets_of (spell_in f c) ≡ s → length s ≡ 0 → ⊥
+  not_empty : (s : List ℕ) → spelt_octets (spell_in f c) ≡ s → length s ≡ 0 → ⊥
   not_empty [] q z = n (e ∙ packed_exactly f c ∙ ap packed q)
   not_empty (o ∷ s) q z = omega arith
 
@@ -32,11 +32,11 @@ module _ (f : Form) (c p : ℕ) (e : p ≡ packed_in (spelling_table f) c) (n : 
   unfolding spell_element
   packed_word =
       let u = unpacked f c p e n in
-      let w : spell_word f c ≡ octets_of (spell_in f c) = simp (lt-ltb c underlined_from (omega (arith, u.small))) in
+      let w : spell_word f c ≡ spelt_octets (spell_in f c) = simp (lt-ltb c underlined_from (omega (arith, u.small))) in
       record {
         octets = u.octets ∙ sym w;
         size = u.size ∙ ap length (sym w);
-        some = λ z. not_empty (octets_of (spell_in f c)) refl (sym u.size ∙ z);
+        some = λ z. not_empty (spelt_octets (spell_in f c)) refl (sym u.size ∙ z);
         not_null = λ z. n (e ∙ ap (packed_in (spelling_table f)) z ∙ null_unspelt f);
         small = u.small;
       }

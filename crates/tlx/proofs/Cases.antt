@@ -17,7 +17,7 @@ use Rattle.run.specs.Grammar.{RunOf}
 use Rattle.run.specs.Answers.{answer, bare, short_room, carrying, count_of, given, written_of, over, same}
 use Rattle.run.proofs.Answers as answers
 use Rattle.sorts.specs.declared.Form.{Form}
-use Rattle.sorts.specs.declared.FormFound.TheVariants.{Is}
+use Rattle.std.specs.Prelude.{Some}
 use Rattle.sorts.specs.Forms.{form_of}
 use Rattle.element_words.specs.declared.Element.{Element}
 use Rattle.element_words.specs.Words.{words_of}
@@ -27,16 +27,15 @@ use Rattle.text_loops.specs.Fronts.{read_in}
 use Rattle.text_reading.specs.ReadAnswers.{read_reading}
 use Rattle.text_loops.proofs.FewWords as few
 use Rattle.text_reading.proofs.ReadTexts as text
-use Rattle.case_table.specs.declared.Header.{Header}
-use Rattle.case_table.specs.declared.Header.TheVariants.{Refused, Pages}
 use Rattle.case_table.specs.Layout.{header, big16, of_form}
-use Rattle.case_table.specs.Check.{header_of}
+use Rattle.std.proofs.Common.{Some, None, Ok, Err}
+use Rattle.case_table.specs.HeaderNumbers.{RefusedWith, fault_number}
+use Rattle.case_table.specs.Check.{Said, header_of}
 use Rattle.case_table.specs.Grammar.{Octets, CaseOf, Turned}
 use Rattle.case_table.proofs.Checked.{turned_exactly}
 use Rattle.case_table.proofs.Promised.{turned_number}
 use Rattle.case_table.proofs.Laid.{laid_exactly, case_header, case_pages}
 use Rattle.tlx.specs.declared.CaseAnswer.{CaseAnswer}
-use Rattle.tlx.specs.declared.Page.TheVariants.{Is as IsPage, NoPage}
 use Rattle.tlx.specs.CaseReadingNumbers.{AllSpelt, none, more, Faulty, AcceptedCase, RefusedCase, of_case, of_page, CaseTable}
 use Rattle.tlx.specs.CaseReadingNumbers.{Size, CaseTells, beside}
 use Rattle.tlx.specs.CaseReading.{CaseOutcome, all, fault, join_pages, after_page, read_page, read_pages, read_case}
@@ -48,7 +47,7 @@ use Rattle.tlx.proofs.PageNumbers.{case_has, has_case}
 use Rattle.tlx.proofs.Rooms.{case_turned, turned_readings}
 use Rattle.sorts.proofs.FormNumbers.{is_found}
 
-module _ (form : ℕ) (f : Form) (is_form : form_of form ≡ Is f) where
+module _ (form : ℕ) (f : Form) (is_form : form_of form ≡ Some f) where
   accepts : (page : List ℕ) (es : List Element) → RunOf (Spells f) page es → read_page (form, page) ≡ accepted es
   accepts page es r = page_read form is_form page ∙ (text.accepted_exactly f page es).1 r
 
@@ -150,7 +149,7 @@ module _ (form : ℕ) (f : Form) (is_form : form_of form ≡ Is f) where
 -- ---- a whole case
 
 -- "Every page is read by itself": the case of pages comes to what its pages come to, each read from its octets alone
-pub read_laid : (case : List ℕ) (form : ℕ) (f : Form) (pages : List (List ℕ)) → form_of form ≡ Is f → CaseOf case form pages
+pub read_laid : (case : List ℕ) (form : ℕ) (f : Form) (pages : List (List ℕ)) → form_of form ≡ Some f → CaseOf case form pages
     → read_case case ≡ read_pages (of_form form pages)
 unfolding read_case
 read_laid case form f pages q c = simp (case_header case form pages c) (ap read_pages (case_pages case form pages c))
@@ -167,10 +166,11 @@ refused_read {case} (of_page {form} {f} {pages} {g} {r} {n} {p} {d} q c i) =
     read_laid case form f pages q c ∙ (pages_refused form f q pages g r n p d).1 i
 
 module _ (case : List ℕ) (octets : Octets case) where
-  accepted_by : (es : List Element) → read_case case ≡ all es → (h : Header) → header_of case ≡ h → AcceptedCase case es
-  accepted_by es q (Refused r) e = let t = case_turned case r e in let z : ◌≡◌ {A = ℕ} 0 1 = cc in absurd (omega arith)
-  accepted_by es q (Pages form n) e =
-      let l = (laid_exactly case octets form n).0 e in
+  accepted_by : (es : List Element) → read_case case ≡ all es → (h : Said) → header_of case ≡ h → AcceptedCase case es
+  accepted_by es q (Err g) e = let t = case_turned case (fault_number g) (g, e, refl) in let z : ◌≡◌ {A = ℕ} 0 1 = cc in absurd (omega arith)
+  accepted_by es q (Ok h) e =
+      let form = h.form in
+      let l = (laid_exactly case octets form h.pages).0 e in
       let f = is_found form l.2.is_form in
       record {
         form = form;
@@ -185,20 +185,23 @@ module _ (case : List ℕ) (octets : Octets case) where
   pub case_accepted : (es : List Element) → (read_case case ≡ all es) ↔ AcceptedCase case es
   case_accepted es = (λ q. accepted_by es q (header_of case) refl, accepted_read)
 
-  is_refused_by : (g r n p d : ℕ) → read_case case ≡ fault g r n p d → (h : Header) → header_of case ≡ h → RefusedCase case g r n p d
-  is_refused_by g r n p d q (Refused k) e =
-      let t = case_turned case k e in
+  is_refused_by : (g r n p d : ℕ) → read_case case ≡ fault g r n p d → (h : Said) → header_of case ≡ h → RefusedCase case g r n p d
+  is_refused_by g r n p d q (Err y) e =
+      let k = fault_number y in
+      let w : RefusedWith (header_of case) k = (y, e, refl) in
+      let t = case_turned case k w in
       let eg : 0 ≡ g = cc in
       let er : k ≡ r = cc in
       let en : 0 ≡ n = cc in
       let ep : 0 ≡ p = cc in
       let ed : 0 ≡ d = cc in
-      let i : RefusedCase case 0 k 0 0 0 = of_case ((turned_exactly case k).0 e) in
+      let i : RefusedCase case 0 k 0 0 0 = of_case ((turned_exactly case k).0 w) in
       subst (λ (x : ℕ). RefusedCase case g r n p x) ed
       (subst (λ (x : ℕ). RefusedCase case g r n x 0) ep
       (subst (λ (x : ℕ). RefusedCase case g r x 0 0) en (subst₂ (λ (x y : ℕ). RefusedCase case x y 0 0 0) eg er i)))
-  is_refused_by g r n p d q (Pages form k) e =
-      let l = (laid_exactly case octets form k).0 e in
+  is_refused_by g r n p d q (Ok h) e =
+      let form = h.form in
+      let l = (laid_exactly case octets form h.pages).0 e in
       let f = is_found form l.2.is_form in
       let t = sym (read_laid case form f.0 l.0 f.1 l.2) ∙ q in
       of_page f.1 l.2 ((pages_refused form f.0 f.1 l.0 g r n p d).0 t)
@@ -316,21 +319,22 @@ words_joined f (more {page} {pages} {es} {fs} r s) =
 
 -- Each page's answer is that of its octets, read as a text with room enough.
 pub page_answers : (case : List ℕ) (form : ℕ) (pages : List (List ℕ)) → CaseOf case form pages → (k : ℕ) → k < length pages
-    → page_answer case k ≡ IsPage (read_reading form (get_or pages k []) (length (get_or pages k [])))
+    → page_answer case k ≡ Some (read_reading form (get_or pages k []) (length (get_or pages k [])))
 unfolding page_answer
 page_answers case form pages c k h =
     simp (case_header case form pages c, lt-ltb k (length pages) h)
-    (ap (λ (l : List (ℕ × List ℕ)). IsPage (alone_reading (get_or l k (form, [])))) (case_pages case form pages c)
-    ∙ ap (λ (page : ℕ × List ℕ). IsPage (alone_reading page)) (get_or-map (λ (page : List ℕ). (form, page)) pages k []))
+    (ap (λ (l : List (ℕ × List ℕ)). Some (alone_reading (get_or l k (form, [])))) (case_pages case form pages c)
+    ∙ ap (λ (page : ℕ × List ℕ). Some (alone_reading page)) (get_or-map (λ (page : List ℕ). (form, page)) pages k []))
 
 pub no_page_answers : (case : List ℕ) (form : ℕ) (pages : List (List ℕ)) → CaseOf case form pages → (k : ℕ) → length pages ≤ k
-    → page_answer case k ≡ NoPage
+    → page_answer case k ≡ None
 unfolding page_answer
 no_page_answers case form pages c k h = simp (case_header case form pages c, le-ltb k (length pages) h)
 
-pub turned_page_answers : (case : List ℕ) (r k : ℕ) → Turned case r → page_answer case k ≡ IsPage (carrying (bare r) 0)
+pub turned_page_answers : (case : List ℕ) (r k : ℕ) → Turned case r → page_answer case k ≡ Some (carrying (bare r) 0)
 unfolding page_answer
-turned_page_answers case r k t = simp ((turned_exactly case r).1 t)
+turned_page_answers case r k t =
+    let w = (turned_exactly case r).1 t in simp w.1 (ap (λ (k : ℕ). Some (carrying (bare k) 0)) w.2)
 
 -- ---- room for as many words as the case has octets is never short
 

@@ -20,7 +20,7 @@ use Rattle.run.specs.Answers.{answer, bare, count_of, carrying, given, roomy_ans
 use Rattle.run.proofs.Answers.{carrying_none}
 use Rattle.run.proofs.Members.{member_at}
 use Rattle.sorts.specs.declared.Form.{Form}
-use Rattle.sorts.specs.declared.FormFound.TheVariants.{Is}
+use Rattle.std.specs.Prelude.{Some}
 use Rattle.sorts.specs.Forms.{form_of}
 use Rattle.sorts.proofs.FormNumbers.{is_found}
 use Rattle.element_words.specs.declared.Element.{Element}
@@ -33,16 +33,14 @@ use Rattle.text_reading.specs.ReadAnswers.{read_reading}
 use Rattle.text_reading.specs.ReadingNumbers.{ReadingFault}
 use Rattle.text_reading.proofs.Respelled.{respelled_is, respelled_exactly}
 use Rattle.text_reading.proofs.ReadTexts as text
-use Rattle.case_table.specs.declared.Header.{Header}
-use Rattle.case_table.specs.declared.Header.TheVariants.{Refused, Pages}
-use Rattle.case_table.specs.Check.{header_of}
+use Rattle.std.proofs.Common.{Option, Some, None, Ok, Err}
+use Rattle.case_table.specs.HeaderNumbers.{fault_number}
+use Rattle.case_table.specs.Check.{Said, header_of}
 use Rattle.case_table.specs.Grammar.{Octets, CaseOf, Turned}
 use Rattle.case_table.proofs.Checked.{turned_exactly}
 use Rattle.case_table.proofs.Laid.{laid_exactly}
 use Rattle.case_table.proofs.Promised.{turned_number}
 use Rattle.tlx.specs.declared.CaseAnswer.{CaseAnswer}
-use Rattle.tlx.specs.declared.Page.{Page}
-use Rattle.tlx.specs.declared.Page.TheVariants.{Is as IsPage, NoPage}
 use Rattle.tlx.specs.CaseReading.{all, join_pages, read_case, page_answer}
 use Rattle.tlx.specs.CaseReadingNumbers.{AllSpelt, none, more, Faulty, AcceptedCase, RefusedCase, of_case, of_page}
 use Rattle.tlx.specs.CaseReadingNumbers.{page_values, PageTable}
@@ -53,7 +51,7 @@ use Rattle.tlx.proofs.Cases.{read_case_tells}
 
 -- After a case that is accepted, the pages of another are read in one case with its own as in theirs: elements joined, or the page's number
 -- moved up.
-pub joined_cases : (form : ℕ) (f : Form) → form_of form ≡ Is f → (case next both : List ℕ) (pages others : List (List ℕ))
+pub joined_cases : (form : ℕ) (f : Form) → form_of form ≡ Some f → (case next both : List ℕ) (pages others : List (List ℕ))
     → CaseOf case form pages → CaseOf next form others → CaseOf both form (pages ++ others)
     → (es : List Element) → read_case case ≡ all es → read_case both ≡ join_pages es (length pages) (read_case next)
 joined_cases form f q case next both pages others a b c es e =
@@ -79,20 +77,20 @@ all_spelt f (page ∷ pages) each =
     (first.0 ++ others.0, more first.1 others.1)
 
 -- a page's refusal has a number
-fault_number : {f : Form} {page : List ℕ} {r n p d : ℕ} → ReadingFault f page r n p d → r ≡ 0 → ⊥
-fault_number {f} i z = omega (arith, reading_number f i.here)
+fault_numbered : {f : Form} {page : List ℕ} {r n p d : ℕ} → ReadingFault f page r n p d → r ≡ 0 → ⊥
+fault_numbered {f} i z = omega (arith, reading_number f i.here)
 
-module _ (case : List ℕ) (form : ℕ) (f : Form) (is_form : form_of form ≡ Is f) (pages : List (List ℕ)) (laid : CaseOf case form pages) where
+module _ (case : List ℕ) (form : ℕ) (f : Form) (is_form : form_of form ≡ Some f) (pages : List (List ℕ)) (laid : CaseOf case form pages) where
   -- A page of a case is within the limit, so it is answered by its reading alone, as a text of its octets: 12 is not asked.
   pub page_read : (k : ℕ) → k < length pages
       → page_answer case k
-      ≡ IsPage (carrying (roomy_answer words_of (length (get_or pages k [])) (read_in f (get_or pages k [])))
+      ≡ Some (carrying (roomy_answer words_of (length (get_or pages k [])) (read_in f (get_or pages k [])))
       (respelled_before f (get_or pages k [])))
   page_read k h =
       let page = get_or pages k [] in
       let s = laid.short page (member_at pages [] k h) in
       page_answers case form pages laid k h
-      ∙ ap₂ (λ (a : Answer) (n : ℕ). IsPage (carrying a n)) (alone_is form is_form page (omega (arith, s)))
+      ∙ ap₂ (λ (a : Answer) (n : ℕ). Some (carrying a n)) (alone_is form is_form page (omega (arith, s)))
       (respelled_is form f is_form page)
 
   -- the five numbers of a page's answer
@@ -104,18 +102,18 @@ module _ (case : List ℕ) (form : ℕ) (f : Form) (is_form : form_of form ≡ I
   -- a page that is a run of elements: 0, its elements, its length, its words, and how many of its elements are not canonical
   pub page_accepted : (k : ℕ) → k < length pages → (fs : List Element) → RunOf (Spells f) (get_or pages k []) fs
       → page_answer case k
-      ≡ IsPage (reading (answer 0 (length fs) (length (get_or pages k [])) (length (given words_of fs))) (respelled_before f (get_or pages k [])))
+      ≡ Some (reading (answer 0 (length fs) (length (get_or pages k [])) (length (given words_of fs))) (respelled_before f (get_or pages k [])))
   page_accepted k h fs r =
       page_read k h
       ∙ ap
-      (λ (x : Outcome Element). IsPage (carrying (roomy_answer words_of (length (get_or pages k [])) x) (respelled_before f (get_or pages k []))))
+      (λ (x : Outcome Element). Some (carrying (roomy_answer words_of (length (get_or pages k [])) x) (respelled_before f (get_or pages k []))))
       ((text.accepted_exactly f (get_or pages k []) fs).1 r)
 
   -- In an accepted case every page is accepted by itself,
   pub each_accepted : (es : List Element) → AllSpelt f pages es → (k : ℕ) → k < length pages
       → (fs : List Element) × RunOf (Spells f) (get_or pages k []) fs
       × (page_answer case k
-      ≡ IsPage (reading (answer 0 (length fs) (length (get_or pages k [])) (length (given words_of fs)))
+      ≡ Some (reading (answer 0 (length fs) (length (get_or pages k [])) (length (given words_of fs)))
       (respelled_before f (get_or pages k []))))
   each_accepted es s k h = let r = spelt_at s k h in (r.0, r.1, page_accepted k h r.0 r.1)
 
@@ -137,19 +135,19 @@ module _ (case : List ℕ) (form : ℕ) (f : Form) (is_form : form_of form ≡ I
         ∙ get_or_at faulty.before faulty.page faulty.behind [] g (sym faulty.named)
 
     -- A page with a fault is the page that is named: by itself it has the same refusal.
-    pub named_page : page_answer case g ≡ IsPage (reading (answer r n p (count_of r d)) 0)
+    pub named_page : page_answer case g ≡ Some (reading (answer r n p (count_of r d)) 0)
     named_page =
         page_read g inside
-        ∙ ap (λ (s : List ℕ). IsPage (carrying (roomy_answer words_of (length s) (read_in f s)) (respelled_before f s))) the_page
-        ∙ ap (λ (x : Outcome Element). IsPage (carrying (roomy_answer words_of (length faulty.page) x) (respelled_before f faulty.page)))
+        ∙ ap (λ (s : List ℕ). Some (carrying (roomy_answer words_of (length s) (read_in f s)) (respelled_before f s))) the_page
+        ∙ ap (λ (x : Outcome Element). Some (carrying (roomy_answer words_of (length faulty.page) x) (respelled_before f faulty.page)))
         (((text.read_meets f faulty.page).faults r n p d).1 faulty.refused)
-        ∙ ap IsPage (sym (carrying_none (answer r n p (count_of r d)) _ (fault_number faulty.refused)))
+        ∙ ap Some (sym (carrying_none (answer r n p (count_of r d)) _ (fault_numbered faulty.refused)))
 
     -- The pages before it are accepted.
     pub before_named : (k : ℕ) → k < g
         → (fs : List Element) × RunOf (Spells f) (get_or pages k []) fs
         × (page_answer case k
-        ≡ IsPage (reading (answer 0 (length fs) (length (get_or pages k [])) (length (given words_of fs)))
+        ≡ Some (reading (answer 0 (length fs) (length (get_or pages k [])) (length (given words_of fs)))
         (respelled_before f (get_or pages k []))))
     before_named k h =
         let l : k < length faulty.before = omega (arith, faulty.named) in
@@ -173,14 +171,14 @@ of_page_row {case} {k} (PageTable.refused {form} {f} {pages} {r} {n} {p} {d} q c
     page_numbers case form f q pages c k h
     ∙ ap (λ (x : Outcome Element). carrying (roomy_answer words_of (length page) x) (respelled_before f page) ∷ [])
     (((text.read_meets f page).faults r n p d).1 i)
-    ∙ ap (λ (a : ReadAnswer). a ∷ []) (sym (carrying_none (answer r n p (count_of r d)) _ (fault_number i)))
-of_page_row {case} {k} (PageTable.accepted {form} {f} {pages} {ps} {es} {k = j} q c h s apart) =
+    ∙ ap (λ (a : ReadAnswer). a ∷ []) (sym (carrying_none (answer r n p (count_of r d)) _ (fault_numbered i)))
+of_page_row {case} {k} (PageTable.accepted {form} {f} {pages} {ps} {es} {k = j} q c h s counted) =
     let page = get_or pages k [] in
     ap page_values (page_accepted case form f q pages c k h es (ps, s))
-    ∙ ap (λ (n : ℕ). reading (answer 0 (length es) (length page) (length (given words_of es))) n ∷ []) ((respelled_exactly f s j).1 apart)
+    ∙ ap (λ (n : ℕ). reading (answer 0 (length es) (length page) (length (given words_of es))) n ∷ []) ((respelled_exactly f s j).1 counted)
 
 module _ (case : List ℕ) (octets : Octets case) (k : ℕ) where
-  by_text : (form : ℕ) (f : Form) → form_of form ≡ Is f → (pages : List (List ℕ)) → CaseOf case form pages → k < length pages
+  by_text : (form : ℕ) (f : Form) → form_of form ≡ Some f → (pages : List (List ℕ)) → CaseOf case form pages → k < length pages
       → (x : Outcome Element) → read_in f (get_or pages k []) ≡ x
       → PageTable case k (carrying (roomy_answer words_of (length (get_or pages k [])) x) (respelled_before f (get_or pages k [])) ∷ [])
   by_text form f q pages c h (accepted es) e =
@@ -188,7 +186,7 @@ module _ (case : List ℕ) (octets : Octets case) (k : ℕ) where
       PageTable.accepted q c h s.1 ((respelled_exactly f s.1 _).0 refl)
   by_text form f q pages c h (refusal r n p d) e =
       let i = ((text.read_meets f (get_or pages k [])).faults r n p d).0 e in
-      subst (λ (a : ReadAnswer). PageTable case k (a ∷ [])) (carrying_none (answer r n p (count_of r d)) _ (fault_number i))
+      subst (λ (a : ReadAnswer). PageTable case k (a ∷ [])) (carrying_none (answer r n p (count_of r d)) _ (fault_numbered i))
       (PageTable.refused q c h i)
 
   by_count : (form : ℕ) (pages : List (List ℕ)) → CaseOf case form pages → (t : Bool) → ltb k (length pages) ≡ t
@@ -202,14 +200,15 @@ module _ (case : List ℕ) (octets : Octets case) (k : ℕ) where
       let h = ltb-false k (length pages) e in
       subst (PageTable case k) (sym (ap page_values (no_page_answers case form pages c k h))) (PageTable.no_page c h)
 
-  by_header_lem : (h : Header) → header_of case ≡ h → PageTable case k (page_values (page_answer case k))
-  by_header_lem (Refused r) q =
-      let t = (turned_exactly case r).0 q in
+  by_header_lem : (h : Said) → header_of case ≡ h → PageTable case k (page_values (page_answer case k))
+  by_header_lem (Err g) q =
+      let r = fault_number g in
+      let t = (turned_exactly case r).0 (g, q, refl) in
       let none = carrying_none (bare r) 0 (λ z. omega (arith, (turned_number t).0)) in
       subst (PageTable case k) (ap (λ (a : ReadAnswer). a ∷ []) none ∙ sym (ap page_values (turned_page_answers case r k t)))
       (PageTable.of_case t)
-  by_header_lem (Pages form n) q =
-      let l = (laid_exactly case octets form n).0 q in by_count form l.0 l.2 (ltb k (length l.0)) refl
+  by_header_lem (Ok h) q =
+      let l = (laid_exactly case octets h.form h.pages).0 q in by_count h.form l.0 l.2 (ltb k (length l.0)) refl
 
   -- the answer of a page is its row
   pub page_row : PageTable case k (page_values (page_answer case k))
@@ -229,14 +228,14 @@ row_turned (PageTable.no_page c l) n h e = absurd e
 row_turned (PageTable.refused {f = f} q c l i) n h e = absurd (omega (arith, reading_number f i.here))
 row_turned (PageTable.accepted q c l s a) n h e = absurd (omega arith)
 
-module _ (case : List ℕ) (k : ℕ) (r : Page) (promise : PageElementsPromise case k r) where
+module _ (case : List ℕ) (k : ℕ) (r : Option ReadAnswer) (promise : PageElementsPromise case k r) where
   -- The five numbers, or that there are none, are exactly those of a row of the table.
   pub page_elements_exactly : (numbers : List ReadAnswer) → (page_values r ≡ numbers) ↔ PageTable case k numbers
   page_elements_exactly numbers =
       (λ e. subst (PageTable case k) e promise.1, λ row. ap page_values promise.0 ∙ of_page_row row)
 
   -- 11, 13, 14 and 15 are given exactly when header and table are turned away so.
-  pub page_elements_turned : (n : ℕ) → 10 < n → ((a : ReadAnswer) × (r ≡ IsPage a) × (a.answer.number ≡ n)) ↔ Turned case n
+  pub page_elements_turned : (n : ℕ) → 10 < n → ((a : ReadAnswer) × (r ≡ Some a) × (a.answer.number ≡ n)) ↔ Turned case n
   page_elements_turned n h = (
     λ x. row_turned promise.1 n h (subst (Numbered n) (sym (ap page_values x.1)) x.2),
     λ t. (carrying (bare n) 0, promise.0 ∙ turned_page_answers case n k t, refl),
@@ -244,49 +243,50 @@ module _ (case : List ℕ) (k : ℕ) (r : Page) (promise : PageElementsPromise c
 
   -- A page of the case is answered as a text of its octets alone, with room enough;
   pub page_elements_read : (form : ℕ) (pages : List (List ℕ)) → CaseOf case form pages → k < length pages
-      → r ≡ IsPage (read_reading form (get_or pages k []) (length (get_or pages k [])))
+      → r ≡ Some (read_reading form (get_or pages k []) (length (get_or pages k [])))
   page_elements_read form pages laid h = promise.0 ∙ page_answers case form pages laid k h
 
-  none_by_count : (form : ℕ) (pages : List (List ℕ)) → CaseOf case form pages → r ≡ NoPage → (t : Bool) → ltb k (length pages) ≡ t
+  none_by_count : (form : ℕ) (pages : List (List ℕ)) → CaseOf case form pages → r ≡ None → (t : Bool) → ltb k (length pages) ≡ t
       → length pages ≤ k
   none_by_count form pages c e true q =
       let x = page_elements_read form pages c (ltb-true k _ q) in let z : ◌≡◌ {A = ℕ} 0 1 = cc in absurd (omega arith)
   none_by_count form pages c e false q = ltb-false k _ q
 
-  none_by_header : (h : Header) → header_of case ≡ h → r ≡ NoPage
+  none_by_header : (h : Said) → header_of case ≡ h → r ≡ None
       → (form : ℕ) × (pages : List (List ℕ)) × CaseOf case form pages × (length pages ≤ k)
-  none_by_header (Refused n) q e =
-      let x = promise.0 ∙ turned_page_answers case n k ((turned_exactly case n).0 q) in
+  none_by_header (Err g) q e =
+      let n = fault_number g in
+      let x = promise.0 ∙ turned_page_answers case n k ((turned_exactly case n).0 (g, q, refl)) in
       let z : ◌≡◌ {A = ℕ} 0 1 = cc in
       absurd (omega arith)
-  none_by_header (Pages form n) q e =
-      let l = (laid_exactly case promise.2 form n).0 q in
-      (form, l.0, l.2, none_by_count form l.0 l.2 e (ltb k (length l.0)) refl)
+  none_by_header (Ok h) q e =
+      let l = (laid_exactly case promise.2 h.form h.pages).0 q in
+      (h.form, l.0, l.2, none_by_count h.form l.0 l.2 e (ltb k (length l.0)) refl)
 
   -- that there is none is answered exactly when the octets are a case of fewer pages.
-  pub page_elements_none : (r ≡ NoPage) ↔ ((form : ℕ) × (pages : List (List ℕ)) × CaseOf case form pages × (length pages ≤ k))
+  pub page_elements_none : (r ≡ None) ↔ ((form : ℕ) × (pages : List (List ℕ)) × CaseOf case form pages × (length pages ≤ k))
   page_elements_none =
       (none_by_header (header_of case) refl, λ x. promise.0 ∙ no_page_answers case x.0 x.1 x.2 k x.3)
 
 -- ---- `read_case` and `page_elements` agree, from both promises
 
 module _ (case words : List ℕ) (a : CaseAnswer) (after : List ℕ) (read : ReadCasePromise case words a after) where
-  refused_page : {g r n p d : ℕ} → RefusedCase case g r n p d → r < 9 → page_answer case g ≡ IsPage (reading (answer r n p (count_of r d)) 0)
+  refused_page : {g r n p d : ℕ} → RefusedCase case g r n p d → r < 9 → page_answer case g ≡ Some (reading (answer r n p (count_of r d)) 0)
   refused_page (of_case t) h = absurd (omega (arith, (turned_number t).0))
   refused_page (of_page {form} {f} {pages} {g} {r} {n} {p} {d} q c i) h = named_page case form f q pages c g r n p d i
 
   -- The page that a case's refusal names has that refusal by itself.
-  pub named_page_answers : 0 < a.answer.number → a.answer.number < 9 → (r : Page) → PageElementsPromise case a.page r
-      → r ≡ IsPage (reading a.answer 0)
+  pub named_page_answers : 0 < a.answer.number → a.answer.number < 9 → (r : Option ReadAnswer) → PageElementsPromise case a.page r
+      → r ≡ Some (reading a.answer 0)
   named_page_answers h l r promise =
       let t = (read_case_tells case words a after read).is_other (λ z. omega arith) (λ z. omega arith) in
       promise.0
       ∙ refused_page t.1 l
-      ∙ ap (λ (c : ℕ). IsPage (reading (answer a.answer.number a.answer.element a.answer.place c) 0)) (sym t.2)
+      ∙ ap (λ (c : ℕ). Some (reading (answer a.answer.number a.answer.element a.answer.place c) 0)) (sym t.2)
 
   accepted_by : {es : List Element} (c : AcceptedCase case es) (form : ℕ) (pages : List (List ℕ)) → CaseOf case form pages
-      → (k : ℕ) → k < length pages → (r : Page) → PageElementsPromise case k r → (t : Bool) → ltb k (length c.pages) ≡ t
-      → (b : ReadAnswer) × (r ≡ IsPage b) × (b.answer.number ≡ 0)
+      → (k : ℕ) → k < length pages → (r : Option ReadAnswer) → PageElementsPromise case k r → (t : Bool) → ltb k (length c.pages) ≡ t
+      → (b : ReadAnswer) × (r ≡ Some b) × (b.answer.number ≡ 0)
   accepted_by {es} c form pages laid k h r promise true q =
       let x = each_accepted case c.form c.the_form c.is_form c.pages c.laid es c.spelt k (ltb-true k _ q) in
       (_, promise.0 ∙ x.2, refl)
@@ -298,8 +298,8 @@ module _ (case words : List ℕ) (a : CaseAnswer) (after : List ℕ) (read : Rea
 
   -- Where the case is accepted, each of its pages is answered by itself, with number 0.
   pub each_page_accepted : a.answer.number ≡ 0 → (form : ℕ) (pages : List (List ℕ)) → CaseOf case form pages
-      → (k : ℕ) → k < length pages → (r : Page) → PageElementsPromise case k r
-      → (b : ReadAnswer) × (r ≡ IsPage b) × (b.answer.number ≡ 0)
+      → (k : ℕ) → k < length pages → (r : Option ReadAnswer) → PageElementsPromise case k r
+      → (b : ReadAnswer) × (r ≡ Some b) × (b.answer.number ≡ 0)
   each_page_accepted e form pages laid k h r promise =
       let t = (read_case_tells case words a after read).is_0 e in
       accepted_by t.1 form pages laid k h r promise (ltb k (length t.1.pages)) refl

@@ -19,12 +19,10 @@ use Rattle.element_words.specs.declared.Element.{Element}
 use Rattle.element_words.specs.Words.{words_of}
 use Rattle.text_loops.specs.Fronts.{read_in}
 use Rattle.text_reading.specs.ReadAnswers.{read_answer, read_words, read_reading}
-use Rattle.case_table.specs.declared.Header.TheVariants.{Pages}
-use Rattle.case_table.specs.Layout.{number16}
-use Rattle.case_table.specs.Check.{header_of, pages_of}
-use Rattle.case_table.specs.PagePlaces.{between}
+use Rattle.case_table.specs.Check.{says, header_of, pages_of}
+use Rattle.case_table.specs.PagePlaces.{PartOf, total_before}
 use Rattle.tlx.specs.CaseReading.{CaseOutcome, all, fault, join_pages, read_pages, read_case, outcome_of, read_case_words}
-use Rattle.tlx.proofs.Pages.{Read, read_start, read_turn, read_stop, read_all, read_length, read_small}
+use Rattle.tlx.proofs.Pages.{Read, read_start, read_turn, read_stop, read_all, read_small}
 
 -- pages with room for all of their words have room for those of the first
 room_front : (es : List Element) (k r : ℕ) (x : CaseOutcome) → RoomFor words_of r (outcome_of (join_pages es k x))
@@ -41,10 +39,10 @@ pub record Filled (case : List ℕ) (form pages start page : ℕ) (words₀ word
   pub read : Read case form pages start page es
   pub put : Put words₀ 0 (given words_of es) words o
 
-pub fill_start : {case : List ℕ} {form pages : ℕ} (words₀ : List ℕ) → header_of case ≡ Pages form pages
-    → Filled case form pages (8 + 2 * pages) 0 words₀ words₀ 0
+pub fill_start : {case : List ℕ} {form pages start : ℕ} (words₀ : List ℕ) → header_of case ≡ says form pages
+    → start ≡ 8 + 2 * pages + total_before case 0 → Filled case form pages start 0 words₀ words₀ 0
 unfolding given
-fill_start words₀ q = record { es = []; read = read_start q; put = put_none words₀ 0 }
+fill_start words₀ q s = record { es = []; read = read_start q s; put = put_none words₀ 0 }
 
 -- the page's words have room, and were put over the entries behind those of the pages before
 record Taken (words : List ℕ) (o : ℕ) (x : Outcome Element) (a : Answer) (l' : List ℕ) : Type 0 where
@@ -62,15 +60,12 @@ module _ {case words₀ : List ℕ} (room : Roomy case words₀) {form pages sta
   pub fill_place : o ≤ length words
   fill_place = omega (arith, was.put.place, put_length was.put, room_so was.read)
 
-  module _ (h : page < pages) {len : ℕ} (e : (len ≡ number16 case (8 + 2 * page)) × (len < 0x10000)) where
+  module _ (h : page < pages) {part : List ℕ} (e : PartOf case page start part) where
     abbrev f : Form
     f = was.read.right.the_form
 
-    abbrev octets : List ℕ
-    octets = between case start (start + len)
-
-    taken_by : {a : Answer} {l' : List ℕ} (x : Outcome Element) → read_in f octets ≡ x
-        → (a ≡ answer_of words_of len (length (behind words o)) x) × (l' ≡ written_of words_of (behind words o) x) → Taken words o x a l'
+    taken_by : {a : Answer} {l' : List ℕ} (x : Outcome Element) → read_in f part ≡ x
+        → (a ≡ answer_of words_of (length part) (length (behind words o)) x) × (l' ≡ written_of words_of (behind words o) x) → Taken words o x a l'
     taken_by (accepted fs) q w =
         let r = room_so (read_turn was.read h e fs q) in
         let k : o + length (given words_of fs) ≤ length words =
@@ -86,23 +81,21 @@ module _ {case words₀ : List ℕ} (room : Roomy case words₀) {form pages sta
     taken_by (refusal r n p d) q w = absurd (rw (read_stop was.read h e r n p d q) at room)
 
     module _ {five : ReadAnswer} {l' : List ℕ}
-        (promised : (five ≡ read_reading form octets (length (behind words o))) × (l' ≡ read_words form octets (behind words o))) where
+        (promised : (five ≡ read_reading form part (length (behind words o))) × (l' ≡ read_words form part (behind words o))) where
       abbrev a : Answer
       a = five.answer
 
-      answered : (a ≡ read_answer form octets (length (behind words o))) × (l' ≡ read_words form octets (behind words o))
+      answered : (a ≡ read_answer form part (length (behind words o))) × (l' ≡ read_words form part (behind words o))
       answered = (ap (λ (x : ReadAnswer). x.answer) promised.0, promised.1)
 
-      taken : Taken words o (read_in f octets) a l'
+      taken : Taken words o (read_in f part) a l'
       unfolding read_answer read_words
       taken =
-          let l = read_length was.read h e in
-          let k = le-leb (length octets) 0x100000 (omega (arith, l, e.1)) in
+          let k = le-leb (length part) 0x100000 (omega (arith, e.short)) in
           let q = was.read.right.is_form in
-          let n = ap (λ (i : ℕ). answer_of words_of i (length (behind words o)) (read_in f octets)) l in
-          taken_by (read_in f octets) refl (answered.0 ∙ simp (q, k) n, answered.1 ∙ simp (q, k))
+          taken_by (read_in f part) refl (answered.0 ∙ simp (q, k), answered.1 ∙ simp (q, k))
 
-      pub fill_turn : Filled case form pages (start + len) (page + 1) words₀ (put_mid o (length words - o) words l') (o + a.count)
+      pub fill_turn : Filled case form pages (start + length part) (page + 1) words₀ (put_mid o (length words - o) words l') (o + a.count)
       fill_turn =
           let t = taken in
           let after = put_mid o (length words - o) words l' in

@@ -6,27 +6,26 @@ use mathlib.Core.List.{List, []}
 use borrow.Author.Tests.{le-ltb, lt-ltb}
 use Rattle.run.specs.declared.ReadAnswer.{ReadAnswer}
 use Rattle.run.specs.Answers.{bare, carrying}
-use Rattle.case_table.specs.declared.Header.TheVariants.{Refused, Pages}
-use Rattle.case_table.specs.Layout.{number16}
-use Rattle.case_table.specs.Check.{header_of}
-use Rattle.case_table.specs.PagePlaces.{total_before, between}
+use Rattle.std.proofs.Common.{Some, None}
+use Rattle.case_table.specs.HeaderNumbers.{RefusedWith}
+use Rattle.case_table.specs.Check.{says, header_of}
+use Rattle.case_table.specs.PagePlaces.{total_before, PartOf}
 use Rattle.case_table.proofs.PagePlaces.{right_header, page_is}
-use Rattle.tlx.specs.declared.Page.TheVariants.{Is, NoPage}
 use Rattle.tlx.specs.CaseReading.{alone_reading, page_answer}
 
 module _ (case : List ℕ) (page : ℕ) where
-  pub turned_page : (r : ℕ) (a : ReadAnswer) → header_of case ≡ Refused r → a ≡ carrying (bare r) 0 → Is a ≡ page_answer case page
+  pub turned_page : (r : ℕ) (a : ReadAnswer) → RefusedWith (header_of case) r → a ≡ carrying (bare r) 0 → Some a ≡ page_answer case page
   unfolding page_answer
-  turned_page r a q e = ap Is e ∙ sym (simp q)
+  turned_page r a w e = ap Some e ∙ sym (simp w.1 (ap (λ (k : ℕ). Some (carrying (bare k) 0)) w.2))
 
-  module _ (form pages : ℕ) (header : header_of case ≡ Pages form pages) where
-    pub no_page : pages ≤ page → NoPage ≡ page_answer case page
+  module _ (form pages : ℕ) (header : header_of case ≡ says form pages) where
+    pub no_page : pages ≤ page → None ≡ page_answer case page
     unfolding page_answer
     no_page h = sym (simp (header, le-ltb page pages h))
 
-    pub the_page : (start len : ℕ) → page < pages → start ≡ 8 + 2 * pages + total_before case page → len ≡ number16 case (8 + 2 * page)
-        → (a : ReadAnswer) → a ≡ alone_reading (form, between case start (start + len)) → Is a ≡ page_answer case page
+    pub the_page : {start : ℕ} {part : List ℕ} → page < pages → start ≡ 8 + 2 * pages + total_before case page → PartOf case page start part
+        → (a : ReadAnswer) → a ≡ alone_reading (form, part) → Some a ≡ page_answer case page
     unfolding page_answer
-    the_page start len h s e a q =
-        let p = page_is (right_header case form pages header) h s e (form, []) in
-        ap Is (q ∙ ap alone_reading (sym p)) ∙ sym (simp (header, lt-ltb page pages h))
+    the_page h s e a q =
+        let p = page_is (right_header case form pages header) h s e.said (form, []) ∙ ap (λ (l : List ℕ). (form, l)) (sym e.is) in
+        ap Some (q ∙ ap alone_reading (sym p)) ∙ sym (simp (header, lt-ltb page pages h))

@@ -8,7 +8,7 @@ use native.Mathlib.Nat.{add_assoc, zero-add}
 use native.Mathlib.Omega.{arith}
 use lib.ListN.{length, get_or, length-append}
 use Rattle.sorts.specs.declared.Form.{Form}
-use Rattle.sorts.specs.declared.FormFound.TheVariants.{Is}
+use Rattle.std.specs.Prelude.{Some}
 use Rattle.sorts.specs.Forms.{form_of}
 use Rattle.element_words.specs.declared.Element.{Element}
 use Rattle.text_loops.specs.Fronts.{respelled_before}
@@ -20,7 +20,7 @@ use Rattle.case_table.proofs.Laid.{case_header, case_pages}
 use Rattle.tlx.specs.CaseReadingNumbers.{AllSpelt, none, more, AcceptedCase, PagesApart}
 use Rattle.tlx.specs.CaseReading.{pages_respelled, case_respelled}
 
-module _ (form : ℕ) (f : Form) (is_form : form_of form ≡ Is f) where
+module _ (form : ℕ) (f : Form) (is_form : form_of form ≡ Some f) where
   abbrev pub number : List (List ℕ) → ℕ
   number pages = pages_respelled (of_form form pages)
 

@@ -2,7 +2,7 @@
 -- Assumes nothing.
 use Prim.Native.Nat.{ℕ, ◌+◌, ◌*◌, ◌≤◌, ◌<◌}
 use mathlib.Core.Path.{◌≡◌, refl, sym, ap, ap₂, ◌∙◌}
-use mathlib.Core.List.{List, [], ◌++◌, append_assoc, append-nil}
+use mathlib.Core.List.{List, [], ◌∷◌, ◌++◌, append_assoc, append-nil}
 use native.Mathlib.Nat.{zero-add, add-zero, add_assoc}
 use native.Mathlib.Omega.{arith}
 use lib.ListN.{length, drop, length-append, drop_of_length-le}
@@ -15,7 +15,7 @@ use Rattle.run.proofs.Answers.{given_length, accepted_carries, carrying_none}
 use Rattle.run.proofs.Loops.{run_few}
 use Rattle.run.proofs.Rooms.{numbered}
 use Rattle.sorts.specs.declared.Form.{Form}
-use Rattle.sorts.specs.declared.FormFound.TheVariants.{Is}
+use Rattle.std.specs.Prelude.{Some}
 use Rattle.sorts.specs.Forms.{form_of}
 use Rattle.element_words.specs.declared.Element.{Element}
 use Rattle.element_words.specs.Words.{words_of}
@@ -25,11 +25,10 @@ use Rattle.text_loops.proofs.FewWords.{few_words}
 use Rattle.text_reading.specs.ReadAnswers.{respelled_in}
 use Rattle.text_reading.proofs.ReadTexts.{accepted_exactly, measure_is}
 use Rattle.text_reading.proofs.Respelled.{respelled_is, respelled_few}
-use Rattle.case_table.specs.declared.Header.TheVariants.{Pages}
-use Rattle.case_table.specs.Layout.{number16, lengths_in, total}
-use Rattle.case_table.specs.Check.{header_of, pages_of}
-use Rattle.case_table.specs.PagePlaces.{Right, total_before, between}
-use Rattle.case_table.proofs.PagePlaces.{right_header, pages_counted, start_next, page_inside, between_length, page_next}
+use Rattle.case_table.specs.Layout.{lengths_in, total}
+use Rattle.case_table.specs.Check.{says, header_of, pages_of}
+use Rattle.case_table.specs.PagePlaces.{Right, PartOf, total_before}
+use Rattle.case_table.proofs.PagePlaces.{right_header, pages_counted, start_next, page_next}
 use Rattle.tlx.specs.declared.CaseAnswer.{CaseAnswer}
 use Rattle.tlx.specs.CaseReading.{CaseOutcome, all, fault, join_pages, after_page, read_page, read_pages, read_case, alone_answer}
 use Rattle.tlx.specs.CaseReading.{alone_reading, case_measured, pages_respelled, case_respelled, with_page, carrying_case}
@@ -38,11 +37,11 @@ use Rattle.tlx.specs.CaseReadingNumbers.{beside}
 -- ---- one page
 
 -- a page of a known form is read as a text of it
-pub page_read : (form : ℕ) {f : Form} → form_of form ≡ Is f → (octets : List ℕ) → read_page (form, octets) ≡ read_in f octets
+pub page_read : (form : ℕ) {f : Form} → form_of form ≡ Some f → (octets : List ℕ) → read_page (form, octets) ≡ read_in f octets
 page_read form q octets = simp q
 
 -- a page within the limit is answered by its reading alone: 12 is not asked
-pub alone_is : (form : ℕ) {f : Form} → form_of form ≡ Is f → (octets : List ℕ) → length octets ≤ 0x100000
+pub alone_is : (form : ℕ) {f : Form} → form_of form ≡ Some f → (octets : List ℕ) → length octets ≤ 0x100000
     → alone_answer (form, octets) ≡ roomy_answer words_of (length octets) (read_in f octets)
 alone_is form {f} q octets h = measure_is form f q octets h
 
@@ -63,7 +62,7 @@ join_join es fs k l (fault g r n p d) = simp add_assoc
 -- ---- page after page
 
 -- a case whose header and table are right comes to what its pages come to
-pub case_is : (case : List ℕ) (form pages : ℕ) → header_of case ≡ Pages form pages → read_case case ≡ read_pages (pages_of case)
+pub case_is : (case : List ℕ) (form pages : ℕ) → header_of case ≡ says form pages → read_case case ≡ read_pages (pages_of case)
 unfolding read_case
 case_is case form pages q = simp q
 
@@ -77,14 +76,15 @@ pub record Read (case : List ℕ) (form pages start page : ℕ) (es : List Eleme
   pub words : length (given words_of es) ≤ 34 * start
   pub sofar : read_case case ≡ join_pages es page (read_pages (drop page (pages_of case)))
 
-pub read_start : {case : List ℕ} {form pages : ℕ} → header_of case ≡ Pages form pages → Read case form pages (8 + 2 * pages) 0 []
+pub read_start : {case : List ℕ} {form pages start : ℕ} → header_of case ≡ says form pages
+    → start ≡ 8 + 2 * pages + total_before case 0 → Read case form pages start 0 []
 unfolding given lengths_in total
-read_start {case} {form} {pages} q =
+read_start {case} {form} {pages} q s =
     record {
       right = right_header case form pages q;
       inside = omega arith;
-      begins = sym (add-zero (8 + 2 * pages));
-      small = omega arith;
+      begins = s;
+      small = omega (arith, s);
       elements = omega arith;
       words = omega arith;
       sofar = case_is case form pages q ∙ sym (join_none _);
@@ -100,46 +100,41 @@ module _ {case : List ℕ} {form pages start page : ℕ} {es : List Element} (wa
   abbrev f : Form
   f = was.right.the_form
 
-  module _ (h : page < pages) {len : ℕ} (e : (len ≡ number16 case (8 + 2 * page)) × (len < 0x10000)) where
-    abbrev octets : List ℕ
-    octets = between case start (start + len)
+  module _ (h : page < pages) {part : List ℕ} (e : PartOf case page start part) where
+    -- it is the first of those that are left
+    pub part_next : drop page (pages_of case) ≡ (form, part) ∷ drop (page + 1) (pages_of case)
+    part_next =
+        page_next was.right h was.begins e.said ∙ ap (λ (l : List ℕ). (form, l) ∷ drop (page + 1) (pages_of case)) (sym e.is)
 
-    -- the page lies in the case, and is short
-    pub read_inside : start + len ≤ length case
-    read_inside = page_inside was.right h was.begins e.0
-
-    pub read_length : length octets ≡ len
-    read_length = between_length was.right h was.begins e.0
-
-    page_on : read_pages (drop page (pages_of case)) ≡ after_page (read_in f octets) (read_pages (drop (page + 1) (pages_of case)))
+    page_on : read_pages (drop page (pages_of case)) ≡ after_page (read_in f part) (read_pages (drop (page + 1) (pages_of case)))
     unfolding read_pages
     page_on =
-        ap read_pages (page_next was.right h was.begins e.0)
+        ap read_pages part_next
         ∙ ap (λ (x : Outcome Element). after_page x (read_pages (drop (page + 1) (pages_of case))))
-        (page_read form was.right.is_form octets)
+        (page_read form was.right.is_form part)
 
-    on : (x : Outcome Element) → read_in f octets ≡ x
+    on : (x : Outcome Element) → read_in f part ≡ x
         → read_case case ≡ join_pages es page (after_page x (read_pages (drop (page + 1) (pages_of case))))
     on x q =
         was.sofar
         ∙ ap (join_pages es page) (page_on ∙ ap (λ (y : Outcome Element). after_page y (read_pages (drop (page + 1) (pages_of case)))) q)
 
     -- the page is accepted
-    pub read_turn : (fs : List Element) → read_in f octets ≡ accepted fs → Read case form pages (start + len) (page + 1) (es ++ fs)
+    pub read_turn : (fs : List Element) → read_in f part ≡ accepted fs → Read case form pages (start + length part) (page + 1) (es ++ fs)
     read_turn fs q =
-        let n = run_few (reads f) (few_words f) ((accepted_exactly f octets fs).0 q).1 in
+        let n = run_few (reads f) (few_words f) ((accepted_exactly f part fs).0 q).1 in
         record {
           right = was.right;
           inside = omega arith;
-          begins = start_next was.right h was.begins e.0;
-          small = omega (arith, was.small, e.1);
-          elements = omega (arith, was.elements, n.few, length-append es fs, read_length);
-          words = omega (arith, was.words, n.short, read_length, given_length words_of es fs);
+          begins = start_next was.right h was.begins e.said;
+          small = omega (arith, was.small, e.short);
+          elements = omega (arith, was.elements, n.few, length-append es fs);
+          words = omega (arith, was.words, n.short, given_length words_of es fs);
           sofar = on (accepted fs) q ∙ join_join es fs page 1 (read_pages (drop (page + 1) (pages_of case)));
         }
 
     -- the page is refused
-    pub read_stop : (r n p d : ℕ) → read_in f octets ≡ refusal r n p d → read_case case ≡ fault page r n p d
+    pub read_stop : (r n p d : ℕ) → read_in f part ≡ refusal r n p d → read_case case ≡ fault page r n p d
     read_stop r n p d q = on (refusal r n p d) q ∙ ap (λ (g : ℕ). fault g r n p d) (add-zero page)
 
   -- no page is left
@@ -174,12 +169,13 @@ pub record Measured (case : List ℕ) (form pages start page n count k : ℕ) : 
   pub respelled : k ≤ n
   pub added : case_respelled case ≡ k + pages_respelled (drop page (pages_of case))
 
-pub measure_start : {case : List ℕ} {form pages : ℕ} → header_of case ≡ Pages form pages → Measured case form pages (8 + 2 * pages) 0 0 0 0
+pub measure_start : {case : List ℕ} {form pages start : ℕ} → header_of case ≡ says form pages
+    → start ≡ 8 + 2 * pages + total_before case 0 → Measured case form pages start 0 0 0 0
 unfolding given case_respelled
-measure_start {case} q =
+measure_start {case} q s =
     record {
       es = [];
-      read = read_start q;
+      read = read_start q s;
       number = refl;
       counted = refl;
       respelled = omega arith;
@@ -190,42 +186,35 @@ module _ {case : List ℕ} {form pages start page n count respelled : ℕ} (was 
   pub measured_small : (n ≤ 16777480) × (count ≤ 34 * 16777480) × (start ≤ 16777480) × (respelled ≤ 16777480)
   measured_small = omega (arith, was.number, was.counted, was.respelled, read_small was.read)
 
-  module _ (h : page < pages) {len : ℕ} (e : (len ≡ number16 case (8 + 2 * page)) × (len < 0x10000))
-      {r : ReadAnswer} (all-five : r ≡ alone_reading (form, between case start (start + len))) where
+  module _ (h : page < pages) {part : List ℕ} (e : PartOf case page start part)
+      {r : ReadAnswer} (all-five : r ≡ alone_reading (form, part)) where
     abbrev m : Answer
     m = r.answer
 
-    a : m ≡ alone_answer (form, between case start (start + len))
+    a : m ≡ alone_answer (form, part)
     a = ap (λ (x : ReadAnswer). x.answer) all-five
 
     abbrev g : Form
     g = was.read.right.the_form
 
-    abbrev the_page : List ℕ
-    the_page = between case start (start + len)
-
-    by_page : m ≡ roomy_answer words_of len (read_in g the_page)
-    by_page =
-        let l = read_length was.read h e in
-        a
-        ∙ alone_is form was.read.right.is_form the_page (omega (arith, l, e.1))
-        ∙ ap (λ (k : ℕ). roomy_answer words_of k (read_in g the_page)) l
+    by_page : m ≡ roomy_answer words_of (length part) (read_in g part)
+    by_page = a ∙ alone_is form was.read.right.is_form part (omega (arith, e.short))
 
     -- its fifth number, of an accepted page: the page's own, and at most its elements
-    fifth : m.number ≡ 0 → r.respelled ≡ respelled_in form the_page
+    fifth : m.number ≡ 0 → r.respelled ≡ respelled_in form part
     fifth = accepted_carries _ _ all-five
 
-    fifth_few : (fs : List Element) → read_in g the_page ≡ accepted fs → respelled_in form the_page ≤ length fs
-    fifth_few fs q = omega (arith, respelled_is form g was.read.right.is_form the_page, respelled_few g the_page fs q)
+    fifth_few : (fs : List Element) → read_in g part ≡ accepted fs → respelled_in form part ≤ length fs
+    fifth_few fs q = omega (arith, respelled_is form g was.read.right.is_form part, respelled_few g part fs q)
 
-    on_page : case_respelled case ≡ respelled + (respelled_in form the_page + pages_respelled (drop (page + 1) (pages_of case)))
+    on_page : case_respelled case ≡ respelled + (respelled_in form part + pages_respelled (drop (page + 1) (pages_of case)))
     unfolding pages_respelled
     on_page =
         was.added
-        ∙ ap (λ (l : List (ℕ × List ℕ)). respelled + pages_respelled l) (page_next was.read.right h was.read.begins e.0)
+        ∙ ap (λ (l : List (ℕ × List ℕ)). respelled + pages_respelled l) (part_next was.read h e)
 
-    turn_by : (x : Outcome Element) → read_in g the_page ≡ x → m ≡ roomy_answer words_of len x → m.number ≡ 0
-        → Measured case form pages (start + len) (page + 1) (n + m.element) (count + m.count) (respelled + r.respelled)
+    turn_by : (x : Outcome Element) → read_in g part ≡ x → m ≡ roomy_answer words_of (length part) x → m.number ≡ 0
+        → Measured case form pages (start + length part) (page + 1) (n + m.element) (count + m.count) (respelled + r.respelled)
     turn_by (accepted fs) q b z =
         let i = ap (λ (y : Answer). y.element) b in
         let c = ap (λ (y : Answer). y.count) b in
@@ -238,21 +227,21 @@ module _ {case : List ℕ} {form pages start page n count respelled : ℕ} (was 
           added = omega (arith, on_page, fifth z);
         }
     turn_by (refusal r k p d) q b z =
-        let i = ap (λ (y : Answer). y.number) b in absurd (omega (arith, i, has_number g the_page q))
+        let i = ap (λ (y : Answer). y.number) b in absurd (omega (arith, i, has_number g part q))
 
-    stop_by : (x : Outcome Element) → read_in g the_page ≡ x → m ≡ roomy_answer words_of len x → (m.number ≡ 0 → ⊥)
+    stop_by : (x : Outcome Element) → read_in g part ≡ x → m ≡ roomy_answer words_of (length part) x → (m.number ≡ 0 → ⊥)
         → beside page m ≡ case_measured (length case) (read_case case)
     stop_by (accepted fs) q b z = absurd (z (ap (λ (y : Answer). y.number) b))
     stop_by (refusal r k p d) q b z =
         ap (beside page) b ∙ sym (ap (case_measured (length case)) (read_stop was.read h e r k p d q))
 
     pub measure_turn : m.number ≡ 0
-        → Measured case form pages (start + len) (page + 1) (n + m.element) (count + m.count) (respelled + r.respelled)
-    measure_turn = turn_by (read_in g the_page) refl by_page
+        → Measured case form pages (start + length part) (page + 1) (n + m.element) (count + m.count) (respelled + r.respelled)
+    measure_turn = turn_by (read_in g part) refl by_page
 
     pub measure_stop : (m.number ≡ 0 → ⊥)
         → beside page m ≡ carrying_case (case_measured (length case) (read_case case)) (case_respelled case)
-    measure_stop z = carried_none (beside page m) _ _ (stop_by (read_in g the_page) refl by_page z) z
+    measure_stop z = carried_none (beside page m) _ _ (stop_by (read_in g part) refl by_page z) z
 
   all_measured : pages ≤ page → ◌≡◌ {A = CaseAnswer} (beside 0 (answer 0 n start count)) (case_measured (length case) (read_case case))
   all_measured h = rw (read_all was.read h, was.number, was.counted, read_end was.read h)

@@ -10,16 +10,15 @@ use Rattle.run.specs.declared.ReadAnswer.{ReadAnswer}
 use Rattle.run.specs.Answers.{bare, carrying}
 use Rattle.run.proofs.Answers.{accepted_carries, refused_carries}
 use Rattle.sorts.specs.declared.Form.{Form}
-use Rattle.sorts.specs.declared.FormFound.TheVariants.{Is}
+use Rattle.std.specs.Prelude.{Some}
 use Rattle.sorts.specs.Forms.{form_of}
 use Rattle.element_words.specs.declared.Element.{Element}
 use Rattle.element_reading.specs.ElementNumbers.{reading}
 use Rattle.text_loops.specs.Fronts.{respelled_before}
+use Rattle.std.proofs.Common.{Option, Some, None}
 use Rattle.case_table.specs.Layout.{total}
 use Rattle.case_table.specs.Grammar.{CaseOf}
 use Rattle.tlx.specs.declared.CaseAnswer.{CaseAnswer}
-use Rattle.tlx.specs.declared.Page.{Page}
-use Rattle.tlx.specs.declared.Page.TheVariants.{Is as IsPage, NoPage}
 use Rattle.tlx.specs.CaseReadingNumbers.{AllSpelt, PagesApart}
 use Rattle.tlx.specs.CaseReading.{case_respelled, read_case_answer}
 use Rattle.tlx.specs.Promises.{PageElementsPromise, ReadCasePromise}
@@ -31,9 +30,9 @@ use Rattle.tlx.proofs.PageNumbers.{number, pages_joined, pages_have, have_pages,
 abbrev pub fifth : ReadAnswer → ℕ
 fifth a = a.respelled
 
-abbrev page_fifth : Page → ℕ
-page_fifth (IsPage a) = fifth a
-page_fifth NoPage = 0
+abbrev page_fifth : Option ReadAnswer → ℕ
+page_fifth (Some a) = fifth a
+page_fifth None = 0
 
 module _ (case words : List ℕ) (r : CaseAnswer) (after : List ℕ) (promise : ReadCasePromise case words r after) where
   -- an answer without its page
@@ -47,7 +46,7 @@ module _ (case words : List ℕ) (r : CaseAnswer) (after : List ℕ) (promise : 
   pub case_refused_carries : (r.answer.number ≡ 0 → ⊥) → r.respelled ≡ 0
   case_refused_carries = refused_carries _ _ is
 
-  module _ (accepts : r.answer.number ≡ 0) (form : ℕ) (f : Form) (is_form : form_of form ≡ Is f) (pages : List (List ℕ))
+  module _ (accepts : r.answer.number ≡ 0) (form : ℕ) (f : Form) (is_form : form_of form ≡ Some f) (pages : List (List ℕ))
       (laid : CaseOf case form pages) where
     -- the pages of an accepted case are runs of elements, as many as it says
     spelt : (es : List Element) × AllSpelt f pages es × (r.answer.element ≡ length es)
@@ -76,7 +75,7 @@ module _ (case words : List ℕ) (r : CaseAnswer) (after : List ℕ) (promise : 
 
     -- It is the sum of what `page_elements` says of each page.
     pub case_adds_up : (answers : List ReadAnswer) → length answers ≡ length pages
-        → ((k : ℕ) → k < length pages → PageElementsPromise case k (IsPage (get_or answers k (reading (bare 0) 0))))
+        → ((k : ℕ) → k < length pages → PageElementsPromise case k (Some (get_or answers k (reading (bare 0) 0))))
         → r.respelled ≡ total (map fifth answers)
     case_adds_up answers e each =
         let page : (k : ℕ) → k < length pages → fifth (get_or answers k (reading (bare 0) 0)) ≡ respelled_before f (get_or pages k []) =
@@ -86,7 +85,7 @@ module _ (case words : List ℕ) (r : CaseAnswer) (after : List ℕ) (promise : 
         (λ k h. get_or-map fifth answers k (reading (bare 0) 0) ∙ page k h)
 
 -- It adds up over two cases of one form: a case of the pages of both, one behind the other, has the sum.
-module _ (form : ℕ) (f : Form) (is_form : form_of form ≡ Is f) (one other both : List ℕ) (pages others : List (List ℕ)) where
+module _ (form : ℕ) (f : Form) (is_form : form_of form ≡ Some f) (one other both : List ℕ) (pages others : List (List ℕ)) where
   pub cases_joined : CaseOf one form pages → CaseOf other form others → CaseOf both form (pages ++ others)
       → (words₁ words₂ words : List ℕ) {r₁ r₂ r : CaseAnswer} {after₁ after₂ after : List ℕ} → ReadCasePromise one words₁ r₁ after₁
       → ReadCasePromise other words₂ r₂ after₂ → ReadCasePromise both words r after → r₁.answer.number ≡ 0 → r₂.answer.number ≡ 0

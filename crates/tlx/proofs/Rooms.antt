@@ -13,13 +13,13 @@ use Rattle.run.specs.declared.Answer.{Answer}
 use Rattle.run.specs.Answers.{answer, bare, short_room, count_of, RoomFor, written_of}
 use Rattle.run.proofs.Choices.{pick_case}
 use Rattle.run.proofs.Rooms as rooms
-use Rattle.sorts.specs.declared.FormFound.{FormFound}
-use Rattle.sorts.specs.declared.FormFound.TheVariants.{Is, Nothing}
+use Rattle.sorts.specs.declared.Form.{Form}
+use Rattle.std.specs.Prelude.{Option, Some, None}
 use Rattle.sorts.specs.Forms.{form_of}
 use Rattle.element_words.specs.Words.{words_of}
 use Rattle.element_words.specs.declared.Element.{Element}
-use Rattle.case_table.specs.declared.Header.TheVariants.{Refused, Pages}
-use Rattle.case_table.specs.Check.{header_of, pages_of}
+use Rattle.case_table.specs.HeaderNumbers.{RefusedWith}
+use Rattle.case_table.specs.Check.{says, header_of, pages_of}
 use Rattle.case_table.proofs.Checked.{turned_exactly}
 use Rattle.case_table.proofs.Promised.{turned_number}
 use Rattle.tlx.specs.declared.CaseAnswer.{CaseAnswer}
@@ -44,16 +44,16 @@ after_numbered x h (refusal r n p d) z = z
 page_numbered : (page : ℕ × List ℕ) → Numbered (read_page page)
 page_numbered page = by (form_of page.0) refl
   where
-    by : (y : FormFound) → form_of page.0 ≡ y → Numbered (read_page page)
-    by (Is f) q = rw q (has_number f page.1 refl)
-    by Nothing q = rw q (omega arith)
+    by : (y : Option Form) → form_of page.0 ≡ y → Numbered (read_page page)
+    by (Some f) q = rw q (has_number f page.1 refl)
+    by None q = rw q (omega arith)
 
 pages_numbered : (pages : List (ℕ × List ℕ)) → Numbered (outcome_of (read_pages pages))
 unfolding read_pages
 pages_numbered [] = tt
 pages_numbered (page ∷ pages) = after_numbered (read_pages pages) (pages_numbered pages) (read_page page) (page_numbered page)
 
-case_numbered : (case : List ℕ) (form pages : ℕ) → header_of case ≡ Pages form pages → Numbered (outcome_of (read_case case))
+case_numbered : (case : List ℕ) (form pages : ℕ) → header_of case ≡ says form pages → Numbered (outcome_of (read_case case))
 case_numbered case form pages q = rw (case_is case form pages q) (pages_numbered (pages_of case))
 
 -- ---- the whole answer
@@ -63,7 +63,7 @@ no_page : (n : ℕ) (x : CaseOutcome) → Numbered (outcome_of x) → (case_meas
 no_page n (all es) z h = refl
 no_page n (fault g r e p d) z h = absurd (omega arith)
 
-module _ (case : List ℕ) (form pages : ℕ) (header : header_of case ≡ Pages form pages) (l : List ℕ)
+module _ (case : List ℕ) (form pages : ℕ) (header : header_of case ≡ says form pages) (l : List ℕ)
     (five : CaseAnswer) (is : five ≡ carrying_case (case_measured (length case) (read_case case)) (case_respelled case)) where
   abbrev a : CaseAnswer
   a = without_fifth five
@@ -122,11 +122,11 @@ module _ (case : List ℕ) (form pages : ℕ) (header : header_of case ≡ Pages
 
 -- ---- a header that is refused
 
-pub case_turned : (case : List ℕ) (r : ℕ) → header_of case ≡ Refused r → read_case case ≡ turned r
+pub case_turned : (case : List ℕ) (r : ℕ) → RefusedWith (header_of case) r → read_case case ≡ turned r
 unfolding read_case
-case_turned case r q = simp q
+case_turned case r w = simp w.1 (ap turned w.2)
 
-pub turned_answers : (case : List ℕ) (r : ℕ) (l : List ℕ) → header_of case ≡ Refused r
+pub turned_answers : (case : List ℕ) (r : ℕ) (l : List ℕ) → RefusedWith (header_of case) r
     → (◌≡◌ {A = CaseAnswer} (beside 0 (bare r)) (read_case_answer case (length l))) × (l ≡ read_case_words case l)
 unfolding read_case_answer read_case_words
 turned_answers case r l q =
@@ -137,7 +137,7 @@ turned_answers case r l q =
     )
 
 -- with the fifth number, which is 0
-pub turned_readings : (case : List ℕ) (r : ℕ) (l : List ℕ) → header_of case ≡ Refused r
+pub turned_readings : (case : List ℕ) (r : ℕ) (l : List ℕ) → RefusedWith (header_of case) r
     → (◌≡◌ {A = CaseAnswer} (beside 0 (bare r)) (read_case_reading case (length l))) × (l ≡ read_case_words case l)
 turned_readings case r l q =
     let t = turned_answers case r l q in

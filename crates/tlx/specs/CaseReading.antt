@@ -2,24 +2,20 @@
 -- words hold after (proofs/Cases: case_exactly); one page's answer (proofs/EachPage: page_row, of_page_row). The answer is made in two
 -- steps: `read_case_answer` has the four numbers and the page, and 0 as the fifth. A part of the code: `case_measured`.
 -- Assumes nothing.
-use Rattle.std.specs.Prelude.{ℕ, ◌+◌, List, [], ◌∷◌, ◌++◌, ltb, length, get_or}
+use Rattle.std.specs.Prelude.{ℕ, ◌+◌, List, [], ◌∷◌, ◌++◌, ltb, length, get_or, Option, Some, None, Ok, Err}
 use Rattle.run.specs.Choice.{pick}
 use Rattle.run.specs.Head.{Outcome, accepted, refusal}
 use Rattle.run.specs.declared.Answer.{Answer}
 use Rattle.run.specs.declared.ReadAnswer.{ReadAnswer}
-use Rattle.run.specs.Answers.{given, carrying, answer_of, written_of, roomy_answer}
+use Rattle.run.specs.Answers.{given, bare, carrying, answer_of, written_of, roomy_answer}
 use Rattle.sorts.specs.Forms.{form_of, in_form}
 use Rattle.element_words.specs.declared.Element.{Element}
 use Rattle.element_words.specs.Words.{words_of}
 use Rattle.text_loops.specs.Fronts.{read_in}
 use Rattle.text_reading.specs.ReadAnswers.{read_answer, respelled_in}
-use Rattle.case_table.specs.declared.Header.{Header}
-use Rattle.case_table.specs.declared.Header.TheVariants.{Refused, Pages}
-use Rattle.case_table.specs.Check.{header_of, pages_of}
-use Rattle.case_table.specs.HeaderNumbers.{header_answer}
+use Rattle.case_table.specs.Check.{Said, header_of, pages_of}
+use Rattle.case_table.specs.HeaderNumbers.{fault_number}
 use Rattle.tlx.specs.declared.CaseAnswer.{CaseAnswer}
-use Rattle.tlx.specs.declared.Page.{Page}
-use Rattle.tlx.specs.declared.Page.TheVariants.{Is, NoPage}
 use Rattle.tlx.specs.CaseReadingNumbers.{beside}
 
 -- what a case, or some pages of it, come to
@@ -53,9 +49,9 @@ abbrev pub turned : ℕ → CaseOutcome
 turned r = fault 0 r 0 0 0
 
 -- by the header: what it is refused with, or the form and how many pages
-abbrev pub by_header : {A : Type 0} → Header → (ℕ → A) → (ℕ → ℕ → A) → A
-by_header (Refused r) without within = without r
-by_header (Pages form n) without within = within form n
+abbrev pub by_header : {A : Type 0} → Said → (ℕ → A) → (ℕ → ℕ → A) → A
+by_header (Err why) without within = without (fault_number why)
+by_header (Ok h) without within = within h.form h.pages
 
 -- a whole case: "13, 14, 11, 15, then pages from the first"
 unfoldable pub read_case : List ℕ → CaseOutcome
@@ -120,10 +116,10 @@ abbrev pub alone_reading : ℕ × List ℕ → ReadAnswer
 alone_reading page = carrying (alone_answer page) (respelled_in page.0 page.1)
 
 -- the case's own refusal; else the page's answer
-unfoldable pub page_answer : List ℕ → ℕ → Page
+unfoldable pub page_answer : List ℕ → ℕ → Option ReadAnswer
 page_answer case page =
-    by_header (header_of case) (λ r. Is (carrying (header_answer (Refused r)) 0))
-    (λ form n. pick (ltb page n) (Is (alone_reading (get_or (pages_of case) page (form, [])))) NoPage)
+    by_header (header_of case) (λ r. Some (carrying (bare r) 0))
+    (λ form n. pick (ltb page n) (Some (alone_reading (get_or (pages_of case) page (form, [])))) None)
 
 -- ---- parts of the code
 

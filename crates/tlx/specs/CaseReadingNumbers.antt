@@ -1,14 +1,13 @@
 -- To be believed: document 01's table of numbers and its order of refusals, for reading a case: which numbers are given, with which page,
 -- and what the lent buffer holds after; and the same of one page. Nothing here speaks of a reader.
 -- Assumes nothing.
-use Rattle.std.specs.Prelude.{ℕ, ◌+◌, ◌≤◌, ◌<◌, ◌≡◌, List, [], ◌∷◌, ◌++◌, length, get_or}
+use Rattle.std.specs.Prelude.{ℕ, ◌+◌, ◌≤◌, ◌<◌, ◌≡◌, List, [], ◌∷◌, ◌++◌, length, get_or, Option, Some, None}
 use Rattle.run.specs.Grammar.{Run, RunOf}
 use Rattle.run.specs.Tally.{Apart}
 use Rattle.run.specs.declared.Answer.{Answer}
 use Rattle.run.specs.declared.ReadAnswer.{ReadAnswer}
 use Rattle.run.specs.Answers.{answer, bare, short_room, count_of, given, over}
 use Rattle.sorts.specs.declared.Form.{Form}
-use Rattle.sorts.specs.declared.FormFound.TheVariants.{Is}
 use Rattle.sorts.specs.Forms.{form_of}
 use Rattle.element_words.specs.declared.Element.{Element}
 use Rattle.element_words.specs.Words.{words_of}
@@ -18,8 +17,6 @@ use Rattle.element_reading.specs.ElementNumbers.{reading}
 use Rattle.text_reading.specs.ReadingNumbers.{ReadingFault}
 use Rattle.case_table.specs.Grammar.{CaseOf, Turned}
 use Rattle.tlx.specs.declared.CaseAnswer.{CaseAnswer}
-use Rattle.tlx.specs.declared.Page.{Page}
-use Rattle.tlx.specs.declared.Page.TheVariants.{Is as IsPage, NoPage}
 
 -- ---- pages
 
@@ -44,7 +41,7 @@ pub record Faulty (f : Form) (pages : List (List ℕ)) (g r n p d : ℕ) : Type 
 pub record AcceptedCase (case : List ℕ) (es : List Element) : Type 0 where
   pub form : ℕ
   pub the_form : Form
-  pub is_form : form_of form ≡ Is the_form
+  pub is_form : form_of form ≡ Some the_form
   pub pages : List (List ℕ)
   pub laid : CaseOf case form pages
   pub spelt : AllSpelt the_form pages es
@@ -52,7 +49,7 @@ pub record AcceptedCase (case : List ℕ) (es : List Element) : Type 0 where
 -- how a case is refused: by itself, or the case of pages is refused at one of them
 pub data RefusedCase (case : List ℕ) : ℕ → ℕ → ℕ → ℕ → ℕ → Type 0 where
   of_case : {r : ℕ} → Turned case r → RefusedCase case 0 r 0 0 0
-  of_page : {form : ℕ} {f : Form} {pages : List (List ℕ)} {g r n p d : ℕ} → form_of form ≡ Is f → CaseOf case form pages
+  of_page : {form : ℕ} {f : Form} {pages : List (List ℕ)} {g r n p d : ℕ} → form_of form ≡ Some f → CaseOf case form pages
       → Faulty f pages g r n p d → RefusedCase case g r n p d
 
 -- how many words the elements give
@@ -100,9 +97,9 @@ pub record CaseTells (case words : List ℕ) (a : CaseAnswer) (after : List ℕ)
 -- ---- one page
 
 -- 01's number and values of each answer: its four numbers, and the fifth; 01 has none for a page that is not in the case
-abbrev pub page_values : Page → List ReadAnswer
-page_values (IsPage a) = a ∷ []
-page_values NoPage = []
+abbrev pub page_values : Option ReadAnswer → List ReadAnswer
+page_values (Some a) = a ∷ []
+page_values None = []
 
 -- the case's own refusal; else the page's octets, as a text by themselves, with room enough; no numbers where there is no such page
 pub data PageTable (case : List ℕ) (page : ℕ) : List ReadAnswer → Type 0 where
@@ -111,10 +108,10 @@ pub data PageTable (case : List ℕ) (page : ℕ) : List ReadAnswer → Type 0 w
   -- the case has fewer pages
   no_page : {form : ℕ} {pages : List (List ℕ)} → CaseOf case form pages → length pages ≤ page → PageTable case page []
   -- "places and elements counted from its start"
-  refused : {form : ℕ} {f : Form} {pages : List (List ℕ)} {r n p d : ℕ} → form_of form ≡ Is f → CaseOf case form pages
+  refused : {form : ℕ} {f : Form} {pages : List (List ℕ)} {r n p d : ℕ} → form_of form ≡ Some f → CaseOf case form pages
       → page < length pages → ReadingFault f (get_or pages page []) r n p d
       → PageTable case page (reading (answer r n p (count_of r d)) 0 ∷ [])
   -- "0, elements, input length, entries written", as with room enough; and how many of its pieces are not canonical
-  accepted : {form : ℕ} {f : Form} {pages ps : List (List ℕ)} {es : List Element} {k : ℕ} → form_of form ≡ Is f → CaseOf case form pages
+  accepted : {form : ℕ} {f : Form} {pages ps : List (List ℕ)} {es : List Element} {k : ℕ} → form_of form ≡ Some f → CaseOf case form pages
       → page < length pages → Run (Spells f) (get_or pages page []) ps es → Apart (CanonicalElement f) ps es k
       → PageTable case page (reading (answer 0 (length es) (length (get_or pages page [])) (Size es)) k ∷ [])

@@ -1,89 +1,71 @@
 // The pieces that are printed. Each starts with a space.
-use lines::answer::digit;
-use lines::say::{say, say_number};
-use sorts::{Form, Found, Sort};
+use lines::answer::Word;
+use sorts::{Form, Sort};
 use spelling::Spelling;
-use std::io;
+use std::fmt;
 
-pub(crate) fn say_octet(rt: &impl Print, octet: u8) -> io::Result<()> {
-    let n = octet as u32;
-    say(rt, &[b' ', digit(n / 0x10), digit(n)])
-}
+#[derive(Clone, Copy)]
+pub(crate) struct Said<T>(pub(crate) T);
 
-// In four digits, or in eight where four do not hold it.
-pub(crate) fn say_code_point(rt: &impl Print, c: u32) -> io::Result<()> {
-    say(rt, b" ")?;
-    if 0x10000 <= c {
-        say_four(rt, c / 0x10000)?;
-    }
-    say_four(rt, c)
-}
-
-fn say_four(rt: &impl Print, n: u32) -> io::Result<()> {
-    say(
-        rt,
-        &[
-            digit(n / 0x1000),
-            digit(n / 0x100),
-            digit(n / 0x10),
-            digit(n),
-        ],
-    )
-}
-
-pub(crate) fn say_form(rt: &impl Print, form: Form) -> io::Result<()> {
-    match form {
-        Form::Eight => say(rt, b" 1"),
-        Form::Seven => say(rt, b" 2"),
-        Form::Basic => say(rt, b" 3"),
+// An octet.
+impl fmt::Display for Said<u8> {
+    fn fmt<W: fmt::Write>(&self, f: &mut fmt::Formatter<W>) -> fmt::Result {
+        let octet = self.0;
+        write!(f, " {octet:02X}")
     }
 }
 
-pub(crate) fn say_sort(rt: &impl Print, sort: Sort) -> io::Result<()> {
-    match sort {
-        Sort::Graphic(c) => {
-            say(rt, b" graphic")?;
-            say_code_point(rt, c)
+// A code point.
+impl fmt::Display for Said<u32> {
+    fn fmt<W: fmt::Write>(&self, f: &mut fmt::Formatter<W>) -> fmt::Result {
+        write!(f, " {}", Word(self.0))
+    }
+}
+
+impl fmt::Display for Said<Form> {
+    fn fmt<W: fmt::Write>(&self, f: &mut fmt::Formatter<W>) -> fmt::Result {
+        match self.0 {
+            Form::Eight => write!(f, " 1"),
+            Form::Seven => write!(f, " 2"),
+            Form::Basic => write!(f, " 3"),
         }
-        Sort::Mark(mark) => {
-            say(rt, b" mark")?;
-            say_octet(rt, mark)
-        }
-        Sort::Underline => say(rt, b" underline"),
-        Sort::Shift => say(rt, b" shift"),
-        Sort::Control => say(rt, b" control"),
-        Sort::SequenceStart => say(rt, b" sequence"),
-        Sort::Refused(number) => {
-            say(rt, b" refused ")?;
-            say_number(rt, number as usize)
+    }
+}
+
+impl fmt::Display for Said<Sort> {
+    fn fmt<W: fmt::Write>(&self, f: &mut fmt::Formatter<W>) -> fmt::Result {
+        match self.0 {
+            Sort::Graphic(c) => write!(f, " graphic{}", Said(c)),
+            Sort::Mark(mark) => write!(f, " mark{}", Said(mark)),
+            Sort::Underline => write!(f, " underline"),
+            Sort::Shift => write!(f, " shift"),
+            Sort::Control => write!(f, " control"),
+            Sort::SequenceStart => write!(f, " sequence"),
+            Sort::Refused(number) => write!(f, " refused {number}"),
         }
     }
 }
 
 // 3: "what follows a mark isn't its listed follower".
-pub(crate) fn say_found(rt: &impl Print, found: Found) -> io::Result<()> {
-    match found {
-        Found::Char(c) => say_code_point(rt, c),
-        Found::Nothing => say(rt, b" refused 3"),
+impl fmt::Display for Said<Option<u32>> {
+    fn fmt<W: fmt::Write>(&self, f: &mut fmt::Formatter<W>) -> fmt::Result {
+        match self.0 {
+            Some(c) => write!(f, "{}", Said(c)),
+            None => write!(f, " refused 3"),
+        }
     }
 }
 
-pub(crate) fn say_spelling(rt: &impl Print, spelling: Spelling) -> io::Result<()> {
-    match spelling {
-        Spelling::One(octet) => say_octet(rt, octet),
-        Spelling::Shifted(octet) => {
-            say_octet(rt, 0x19)?;
-            say_octet(rt, octet)
+impl fmt::Display for Said<Option<Spelling>> {
+    fn fmt<W: fmt::Write>(&self, f: &mut fmt::Formatter<W>) -> fmt::Result {
+        match self.0 {
+            Some(Spelling::One(octet)) => write!(f, "{}", Said(octet)),
+            Some(Spelling::Shifted(octet)) => write!(f, " 19{}", Said(octet)),
+            Some(Spelling::Pair(mark, letter)) => write!(f, "{}{}", Said(mark), Said(letter)),
+            Some(Spelling::ShiftedPair(mark, letter)) => {
+                write!(f, " 19{}{}", Said(mark), Said(letter))
+            }
+            None => write!(f, " unspelt"),
         }
-        Spelling::Pair(mark, letter) => {
-            say_octet(rt, mark)?;
-            say_octet(rt, letter)
-        }
-        Spelling::ShiftedPair(mark, letter) => {
-            say_octet(rt, 0x19)?;
-            say_octet(rt, mark)?;
-            say_octet(rt, letter)
-        }
-        Spelling::Unspelt => say(rt, b" unspelt"),
     }
 }

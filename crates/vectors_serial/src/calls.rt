@@ -1,112 +1,141 @@
 // The functions of `serial`, called as a line says, with a part of a larger room, and what they answer as text.
-use lines::answer::{put, put_after_space, put_numbers, put_octet, unasked};
-use lines::fields::{field, number_in, octets_in, part, words_in};
-use lines::room::{fill_words, put_words};
+use lines::answer::{Numbers, Octets, Place, unasked};
+use lines::fields::{field, number_at, number_in, octets_in, part, size_at, split};
+use lines::room::{Put, room};
 use run::Answer;
 use serial::{Carry, Fed};
+use std::alloc::{AllocError, Global};
+use std::fmt;
 
-// The carry that a call leaves, and the place after what is put of the call.
-#[derive(Clone, Copy)]
-struct Said {
-    carry: Carry,
-    next: usize,
-}
-
-// The carry whose fields a line begins with.
-pub(crate) fn carry_in(line: &[u8]) -> Carry {
-    let mut held = [0; 39];
-    octets_in(field(line, 0), &mut held);
-    Carry {
-        answer: Answer {
-            number: number_in(field(line, 1)) as usize,
-            element: number_in(field(line, 2)) as usize,
-            place: number_in(field(line, 3)) as usize,
-            count: number_in(field(line, 4)) as usize,
-        },
-        respelled: number_in(field(line, 5)) as usize,
-        holds: number_in(field(line, 6)) as usize,
-        form: number_in(field(line, 7)),
-        stopped: number_in(field(line, 8)),
-        held,
+// Up to the last octet that is not 0.
+fn before_zeros(held: &[u8; 39]) -> &[u8] {
+    match held.iter().rposition(|octet| *octet != 0) {
+        Some(last) => &held[..=last],
+        None => &[],
     }
 }
 
-fn feed_into(carry: Carry, piece: &[u8], ended: bool, words: &mut [u32], entries: u32) -> Fed {
-    let room = entries as usize;
-    if words.len() < room {
-        return Fed {
+// The carry's numbers, and its `held` up to the last entry that is not 0.
+#[derive(Clone, Copy)]
+struct Carried(Carry);
+
+impl fmt::Display for Carried {
+    fn fmt<W: fmt::Write>(&self, f: &mut fmt::Formatter<W>) -> fmt::Result {
+        let Carry {
+            answer,
+            respelled,
+            holds,
+            form,
+            stopped,
+            held,
+        } = self.0;
+        let form = Place(form as usize);
+        let stopped = Place(stopped as usize);
+        write!(f, "{} {} ", Numbers(answer), Place(respelled))?;
+        write!(
+            f,
+            "{} {form} {stopped} {}",
+            Place(holds),
+            Octets(before_zeros(&held))
+        )
+    }
+}
+
+// The outcome of a call: the numbers, the words that it handed out, and the carry that it leaves.
+#[derive(Clone, Copy)]
+struct Outcome<'a> {
+    fed: Fed,
+    words: &'a [u32],
+}
+
+impl fmt::Display for Outcome<'_> {
+    fn fmt<W: fmt::Write>(&self, f: &mut fmt::Formatter<W>) -> fmt::Result {
+        let Fed {
+            carry,
+            answer,
+            respelled,
+            handed,
+        } = self.fed;
+        let words = Put {
+            room: self.words,
+            count: handed,
+        };
+        write!(f, "{} {} ", Numbers(answer), Place(respelled))?;
+        write!(f, "{}/{words}/{};", Place(handed), Carried(carry))
+    }
+}
+
+// The carry whose fields a line begins with.
+fn carry_in(alloc: Global, line: &[u8]) -> Result<Carry, AllocError> {
+    let mut held = [0; 39];
+    let octets = octets_in(alloc, field(line, 0), 39)?;
+    for (to, octet) in held.iter_mut().zip(octets.iter()) {
+        *to = *octet;
+    }
+    Ok(Carry {
+        answer: Answer {
+            number: size_at(line, 1),
+            element: size_at(line, 2),
+            place: size_at(line, 3),
+            count: size_at(line, 4),
+        },
+        respelled: size_at(line, 5),
+        holds: size_at(line, 6),
+        form: number_at(line, 7),
+        stopped: number_at(line, 8),
+        held,
+    })
+}
+
+// One call: piece, room, and whether the page ends. Its outcome is put, and the carry that it leaves is answered.
+fn put_call(
+    alloc: Global,
+    out: &mut String,
+    carry: Carry,
+    call: &[u8],
+) -> Result<Carry, AllocError> {
+    let piece = octets_in(alloc, part(call, b' ', 0), 256)?;
+    let size = number_in(part(call, b' ', 1)) as usize;
+    let ended = number_in(part(call, b' ', 2)) != 0;
+    let mut words = room(alloc, 256)?;
+    let fed = match words.as_mut_slice().get_mut(..size) {
+        Some(lent) => carry.feed(&piece, ended, lent),
+        None => Fed {
             carry,
             answer: unasked(),
             respelled: 0,
             handed: 0,
-        };
-    }
-    carry.feed(piece, ended, &mut words[0..room])
-}
-
-// A space, and the octets up to the last that is not 0: what is put next goes over the zeros.
-fn put_held(out: &mut [u8], at: usize, held: &[u8; 39]) -> usize {
-    let mut next = put(out, at, b' ');
-    let mut end = next;
-    let mut i = 0;
-    while i < 39 {
-        next = put_octet(out, next, held[i]);
-        if held[i] != 0 {
-            end = next;
-        }
-        i += 1;
-    }
-    end
-}
-
-fn put_carry(out: &mut [u8], at: usize, carry: Carry) -> usize {
-    let four = put_numbers(out, at, carry.answer);
-    let five = put_after_space(out, four, carry.respelled);
-    let holds = put_after_space(out, five, carry.holds);
-    let form = put_after_space(out, holds, carry.form as usize);
-    let stopped = put_after_space(out, form, carry.stopped as usize);
-    let held = carry.held;
-    put_held(out, stopped, &held)
-}
-
-// The outcome of a call, with the words that it handed out.
-pub(crate) fn put_fed(out: &mut [u8], at: usize, fed: Fed, words: &[u32]) -> usize {
-    let four = put_numbers(out, at, fed.answer);
-    let five = put_after_space(out, four, fed.respelled);
-    let six = put_after_space(out, five, fed.handed);
-    let first = put(out, six, b'/');
-    let second = put_words(out, first, words, fed.handed);
-    let third = put(out, second, b'/');
-    let last = put_carry(out, third, fed.carry);
-    put(out, last, b';')
-}
-
-// One call: piece, room, and whether the page ends.
-fn answer_call(out: &mut [u8], at: usize, carry: Carry, call: &[u8]) -> Said {
-    let mut octets = [0; 256];
-    let n = octets_in(part(call, 0, b' '), &mut octets);
-    let mut numbers = [0; 3];
-    words_in(call, &mut numbers);
-    let mut words = [0; 256];
-    fill_words(&mut words);
-    let ended = numbers[2] != 0;
-    let fed = feed_into(carry, &octets[..n], ended, &mut words, numbers[1]);
-    let carry = fed.carry;
-    let next = put_fed(out, at, fed, &words);
-    Said { carry, next }
+        },
+    };
+    let words = words.as_slice();
+    write!(out, "{}", Outcome { fed, words })?;
+    Ok(fed.carry)
 }
 
 // The calls one after another, each on the carry that the one before it left.
-pub(crate) fn answer_calls(out: &mut [u8], at: usize, carry: Carry, calls: &[u8]) -> usize {
-    let mut carry = carry;
-    let mut next = at;
-    let mut i = 0;
-    while i < calls.len() {
-        let call = part(calls, i, b';');
-        let said = answer_call(out, next, carry, call);
-        carry = said.carry;
-        next = said.next;
-        i += call.len() + 1;
+fn put_calls(
+    alloc: Global,
+    out: &mut String,
+    mut carry: Carry,
+    calls: &[u8],
+) -> Result<(), AllocError> {
+    for call in split(calls, b';') {
+        carry = put_call(alloc, out, carry, call)?;
     }
-    next
+    Ok(())
+}
+
+// From the form that the page is made fresh with: making fresh is the first outcome.
+pub(crate) fn answer_fresh(alloc: Global, line: &[u8]) -> Result<String, AllocError> {
+    let fed = Carry::fresh(number_at(line, 0));
+    let mut out = format!(in alloc; "{}", Outcome { fed, words: &[] })?;
+    put_calls(alloc, &mut out, fed.carry, field(line, 1))?;
+    Ok(out)
+}
+
+// From the fields of a carry.
+pub(crate) fn answer_carried(alloc: Global, line: &[u8]) -> Result<String, AllocError> {
+    let mut out = String::new(alloc);
+    put_calls(alloc, &mut out, carry_in(alloc, line)?, field(line, 9))?;
+    Ok(out)
 }

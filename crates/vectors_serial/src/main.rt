@@ -12,57 +12,37 @@
 
 mod calls;
 
-use calls::{answer_calls, carry_in, put_fed};
-use lines::fields::{field, number_in};
-use lines::files::buffer;
-use lines::vectors::{begin, judge, line_of, say_totals};
+use calls::{answer_carried, answer_fresh};
+use lines::vectors::run_file;
 use std::io;
-use std::rt::Files;
 
-// What the lines of a file start with.
-#[derive(Clone, Copy)]
-enum Start {
-    Form,
-    Carry,
-}
+const FRESH: [&str; 14] = [
+    "cut_1.csv",
+    "cut_2.csv",
+    "cut_3.csv",
+    "octet_1.csv",
+    "octet_2.csv",
+    "octet_3.csv",
+    "fault_1.csv",
+    "fault_2.csv",
+    "fault_3.csv",
+    "room_1.csv",
+    "room_2.csv",
+    "room_3.csv",
+    "upper.csv",
+    "form.csv",
+];
 
-fn answer(out: &mut [u8], start: Start, line: &[u8]) -> usize {
-    match start {
-        Start::Form => {
-            let fed = serial::Carry::fresh(number_in(field(line, 0)));
-            let next = put_fed(out, 0, fed, &[]);
-            answer_calls(out, next, fed.carry, field(line, 1))
-        }
-        Start::Carry => answer_calls(out, 0, carry_in(line), field(line, 9)),
-    }
-}
-
-fn run_file(rt: &(impl Files + Print + Eprint), name: &[u8], start: Start) -> io::Result<()> {
-    let mut text = buffer();
-    let mut tally = begin(rt, name, &mut text)?;
-    while tally.at < tally.end {
-        let mut ours = [0; 16384];
-        let n = answer(&mut ours, start, line_of(&text, tally));
-        tally = judge(rt, &text, tally, &ours, n)?;
-    }
-    say_totals(rt, name, tally)
-}
+// What an answer has past so many octets is cut.
+const LONGEST: usize = 16384;
 
 fn main(rt: HostRuntime) -> io::Result<()> {
-    run_file(&rt, b"cut_1.csv", Start::Form)?;
-    run_file(&rt, b"cut_2.csv", Start::Form)?;
-    run_file(&rt, b"cut_3.csv", Start::Form)?;
-    run_file(&rt, b"octet_1.csv", Start::Form)?;
-    run_file(&rt, b"octet_2.csv", Start::Form)?;
-    run_file(&rt, b"octet_3.csv", Start::Form)?;
-    run_file(&rt, b"fault_1.csv", Start::Form)?;
-    run_file(&rt, b"fault_2.csv", Start::Form)?;
-    run_file(&rt, b"fault_3.csv", Start::Form)?;
-    run_file(&rt, b"room_1.csv", Start::Form)?;
-    run_file(&rt, b"room_2.csv", Start::Form)?;
-    run_file(&rt, b"room_3.csv", Start::Form)?;
-    run_file(&rt, b"upper.csv", Start::Form)?;
-    run_file(&rt, b"form.csv", Start::Form)?;
-    run_file(&rt, b"carry.csv", Start::Carry)?;
-    run_file(&rt, b"respelled.csv", Start::Carry)
+    let alloc = rt.alloc();
+    for name in FRESH {
+        run_file(&rt, name, LONGEST, |line| answer_fresh(alloc, line))?;
+    }
+    for name in ["carry.csv", "respelled.csv"] {
+        run_file(&rt, name, LONGEST, |line| answer_carried(alloc, line))?;
+    }
+    Ok(())
 }

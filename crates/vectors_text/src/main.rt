@@ -16,65 +16,37 @@ mod calls;
 mod peers;
 
 use calls::{answer_converting, answer_element, answer_one, answer_reading, answer_writing};
-use lines::fields::{field, number_in};
-use lines::files::buffer;
-use lines::vectors::{begin, judge, line_of, say_totals};
+use lines::vectors::run_file;
 use peers::compare_file;
 use std::io;
-use std::rt::Files;
 
-// What the lines of a file ask.
-#[derive(Clone, Copy)]
-enum Asked {
-    Reading,
-    Writing,
-    Converting,
-    OneElement,
-    OneIntoWords,
-}
+const CONVERTED: [&str; 6] = [
+    "convert_1.csv",
+    "convert_2.csv",
+    "convert_3.csv",
+    "respelled_1.csv",
+    "respelled_2.csv",
+    "respelled_3.csv",
+];
 
-fn answer(out: &mut [u8], asked: Asked, line: &[u8]) -> usize {
-    let forms = field(line, 0);
-    let entries = field(line, 1);
-    let third = number_in(field(line, 2)) as usize;
-    match asked {
-        Asked::Reading => answer_reading(out, number_in(forms), entries, third),
-        Asked::Writing => answer_writing(out, number_in(forms), entries, third),
-        Asked::Converting => answer_converting(out, forms, entries, third),
-        Asked::OneElement => answer_element(out, number_in(forms), entries, third),
-        Asked::OneIntoWords => {
-            let room = number_in(field(line, 3)) as usize;
-            answer_one(out, number_in(forms), entries, third, room)
-        }
-    }
-}
-
-fn run_file(rt: &(impl Files + Print + Eprint), name: &[u8], asked: Asked) -> io::Result<()> {
-    let mut text = buffer();
-    let mut tally = begin(rt, name, &mut text)?;
-    while tally.at < tally.end {
-        let mut ours = [0; 8192];
-        let n = answer(&mut ours, asked, line_of(&text, tally));
-        tally = judge(rt, &text, tally, &ours, n)?;
-    }
-    say_totals(rt, name, tally)
-}
+// What an answer has past so many octets is cut.
+const LONGEST: usize = 8192;
 
 fn main(rt: HostRuntime) -> io::Result<()> {
-    run_file(&rt, b"read_1.csv", Asked::Reading)?;
-    run_file(&rt, b"read_2.csv", Asked::Reading)?;
-    run_file(&rt, b"read_3.csv", Asked::Reading)?;
-    run_file(&rt, b"write_1.csv", Asked::Writing)?;
-    run_file(&rt, b"write_2.csv", Asked::Writing)?;
-    run_file(&rt, b"write_3.csv", Asked::Writing)?;
-    run_file(&rt, b"convert_1.csv", Asked::Converting)?;
-    run_file(&rt, b"convert_2.csv", Asked::Converting)?;
-    run_file(&rt, b"convert_3.csv", Asked::Converting)?;
-    run_file(&rt, b"respelled_1.csv", Asked::Converting)?;
-    run_file(&rt, b"respelled_2.csv", Asked::Converting)?;
-    run_file(&rt, b"respelled_3.csv", Asked::Converting)?;
-    run_file(&rt, b"element.csv", Asked::OneElement)?;
-    run_file(&rt, b"into.csv", Asked::OneIntoWords)?;
-    compare_file(&rt, b"glibc_1.csv", 1)?;
-    compare_file(&rt, b"glibc_3.csv", 3)
+    let alloc = rt.alloc();
+    for name in ["read_1.csv", "read_2.csv", "read_3.csv"] {
+        run_file(&rt, name, LONGEST, |line| answer_reading(alloc, line))?;
+    }
+    for name in ["write_1.csv", "write_2.csv", "write_3.csv"] {
+        run_file(&rt, name, LONGEST, |line| answer_writing(alloc, line))?;
+    }
+    for name in CONVERTED {
+        run_file(&rt, name, LONGEST, |line| answer_converting(alloc, line))?;
+    }
+    run_file(&rt, "element.csv", LONGEST, |line| {
+        answer_element(alloc, line)
+    })?;
+    run_file(&rt, "into.csv", LONGEST, |line| answer_one(alloc, line))?;
+    compare_file(&rt, "glibc_1.csv", 1)?;
+    compare_file(&rt, "glibc_3.csv", 3)
 }

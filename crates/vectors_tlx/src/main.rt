@@ -14,60 +14,38 @@ mod calls;
 mod runs;
 
 use calls::{answer_header, answer_page, answer_reading, answer_writing};
-use lines::files::buffer;
-use lines::vectors::{begin, judge, line_of, say_totals};
+use lines::vectors::run_file;
 use std::io;
-use std::rt::Files;
 
-// What the lines of a file ask.
-#[derive(Clone, Copy)]
-enum Asked {
-    Reading,
-    OnePage,
-    HeaderAlone,
-    Writing,
-}
-
-fn answer(out: &mut [u8], asked: Asked, is_long: bool, line: &[u8]) -> usize {
-    match asked {
-        Asked::Reading => answer_reading(out, is_long, line),
-        Asked::OnePage => answer_page(out, is_long, line),
-        Asked::HeaderAlone => answer_header(out, is_long, line),
-        Asked::Writing => answer_writing(out, is_long, line),
-    }
-}
-
-fn run_file(
-    rt: &(impl Files + Print + Eprint),
-    name: &[u8],
-    asked: Asked,
-    is_long: bool,
-) -> io::Result<()> {
-    let mut text = buffer();
-    let mut tally = begin(rt, name, &mut text)?;
-    while tally.at < tally.end {
-        let mut ours = [0; 8192];
-        let n = answer(&mut ours, asked, is_long, line_of(&text, tally));
-        tally = judge(rt, &text, tally, &ours, n)?;
-    }
-    say_totals(rt, name, tally)
-}
+// What an answer has past so many octets is cut.
+const LONGEST: usize = 8192;
 
 fn main(rt: HostRuntime) -> io::Result<()> {
-    run_file(&rt, b"read_1.csv", Asked::Reading, false)?;
-    run_file(&rt, b"read_2.csv", Asked::Reading, false)?;
-    run_file(&rt, b"read_3.csv", Asked::Reading, false)?;
-    run_file(&rt, b"page_1.csv", Asked::OnePage, false)?;
-    run_file(&rt, b"page_2.csv", Asked::OnePage, false)?;
-    run_file(&rt, b"page_3.csv", Asked::OnePage, false)?;
-    run_file(&rt, b"read_respelled.csv", Asked::Reading, false)?;
-    run_file(&rt, b"page_respelled.csv", Asked::OnePage, false)?;
-    run_file(&rt, b"header.csv", Asked::HeaderAlone, false)?;
-    run_file(&rt, b"write_1.csv", Asked::Writing, false)?;
-    run_file(&rt, b"write_2.csv", Asked::Writing, false)?;
-    run_file(&rt, b"write_3.csv", Asked::Writing, false)?;
-    run_file(&rt, b"write_refused.csv", Asked::Writing, false)?;
-    run_file(&rt, b"long_read.csv", Asked::Reading, true)?;
-    run_file(&rt, b"long_page.csv", Asked::OnePage, true)?;
-    run_file(&rt, b"long_write.csv", Asked::Writing, true)
+    let alloc = rt.alloc();
+    let read = |line: &[u8]| answer_reading(alloc, false, line);
+    let page = |line: &[u8]| answer_page(alloc, false, line);
+    let header = |line: &[u8]| answer_header(alloc, false, line);
+    let write = |line: &[u8]| answer_writing(alloc, false, line);
+    run_file(&rt, "read_1.csv", LONGEST, read)?;
+    run_file(&rt, "read_2.csv", LONGEST, read)?;
+    run_file(&rt, "read_3.csv", LONGEST, read)?;
+    run_file(&rt, "page_1.csv", LONGEST, page)?;
+    run_file(&rt, "page_2.csv", LONGEST, page)?;
+    run_file(&rt, "page_3.csv", LONGEST, page)?;
+    run_file(&rt, "read_respelled.csv", LONGEST, read)?;
+    run_file(&rt, "page_respelled.csv", LONGEST, page)?;
+    run_file(&rt, "header.csv", LONGEST, header)?;
+    run_file(&rt, "write_1.csv", LONGEST, write)?;
+    run_file(&rt, "write_2.csv", LONGEST, write)?;
+    run_file(&rt, "write_3.csv", LONGEST, write)?;
+    run_file(&rt, "write_refused.csv", LONGEST, write)?;
+    run_file(&rt, "long_read.csv", LONGEST, |line| {
+        answer_reading(alloc, true, line)
+    })?;
+    run_file(&rt, "long_page.csv", LONGEST, |line| {
+        answer_page(alloc, true, line)
+    })?;
+    run_file(&rt, "long_write.csv", LONGEST, |line| {
+        answer_writing(alloc, true, line)
+    })
 }

@@ -1,25 +1,20 @@
--- `is_fitting` meets its contract: what is left to be tested after each length (`Tested`), and each way out.
-use native.Mathlib.Omega.{arith}
-use Rattle.case_writing.proofs.Parts.{tested_none, over_many, tested_turn, over_long, tested_all}
+-- `is_fitting` meets its contract: each way out, by what was asked before it; and fitting lengths are few and short.
+use mathlib.Core.Path.{sym, ◌∙◌}
+use Rattle.case_writing.proofs.Parts.{over_many, over_long, adds_up, fits, fits_small}
 use Rattle.case_writing.proofs.is_fitting.Goals as goal
 
-pub returns-then-lengths-gt256 : goal.returns-then-lengths-gt256
-returns-then-lengths-gt256 c = over_many _ _ (omega arith)
+pub returns-then-lengths-gt256-clause-test : goal.returns-then-lengths-gt256-clause-test
+returns-then-lengths-gt256-clause-test c = over_many _ _ c.if-lengths-gt256.true
 
-pub loop-i-init : goal.loop-i-init
-loop-i-init c = tested_none _ (omega arith)
+pub returns-then-are_short-clause-test : goal.returns-then-are_short-clause-test
+returns-then-are_short-clause-test c =
+    adds_up _ _ c.if-lengths-gt256.false _ c.are_short.ensures c.if-are_short.true _ c.total_of.ensures
 
-pub returns-then-lengths-i-gt65535 : goal.returns-then-lengths-i-gt65535
-returns-then-lengths-i-gt65535 c = over_long _ _ _ c.loop-i.invariant c.loop-i-test.true _ (omega arith)
+pub returns-then-are_short-clause-short : goal.returns-then-are_short-clause-short
+returns-then-are_short-clause-short c w = (fits _ _ (sym (returns-then-are_short-clause-test c) ∙ w)).short
 
-pub overflow_cast-sum : goal.overflow_cast-sum
-overflow_cast-sum c = omega (arith, c.type_inv.lengths c.loop-i.i)
+pub returns-then-are_short-clause-small : goal.returns-then-are_short-clause-small
+returns-then-are_short-clause-small c w = fits_small _ _ (fits _ _ (sym (returns-then-are_short-clause-test c) ∙ w))
 
-pub overflow_add-sum : goal.overflow_add-sum
-overflow_add-sum c = let was = c.loop-i.invariant in omega (arith, was.few, was.small)
-
-pub loop-i-preserved : goal.loop-i-preserved
-loop-i-preserved c = tested_turn _ _ _ c.loop-i.invariant c.loop-i-test.true (omega arith)
-
-pub returns : goal.returns
-returns c = tested_all _ _ _ c.loop-i.invariant _ c.loop-i-test.false
+pub returns-else-are_short-clause-test : goal.returns-else-are_short-clause-test
+returns-else-are_short-clause-test c = over_long _ _ c.if-lengths-gt256.false _ c.are_short.ensures c.if-are_short.false

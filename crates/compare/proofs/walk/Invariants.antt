@@ -4,8 +4,8 @@ use lib.ListN.{length}
 use Rattle.compare.proofs.Walks.{Walked}
 use Rattle.compare.proofs.walk.Given as goal
 
-abbrev pub invariant-loop-i : goal.invariant-loop-i
-invariant-loop-i l = Walked l.form l.first l.second l.n l.i l.j l.k
+abbrev pub invariant-loop-shared : goal.invariant-loop-shared
+invariant-loop-shared l = Walked l.reader l.first l.second l.shared
 
-abbrev pub decreases-loop-i : goal.decreases-loop-i
-decreases-loop-i l = length l.first - l.i
+abbrev pub decreases-loop-shared : goal.decreases-loop-shared
+decreases-loop-shared l = length l.first - l.shared.first

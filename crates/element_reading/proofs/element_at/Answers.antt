@@ -9,16 +9,6 @@ use Rattle.element_reading.proofs.element_at.Goals as goal
 pub returns-then-text-at : goal.returns-then-text-at
 returns-then-text-at c = step_kept _ _ _ _ (none_left _ _ _ c.if-text-at.true)
 
-pub overflow_cast-word : goal.overflow_cast-word
-overflow_cast-word c =
-    let a = c.args in
-    omega (arith, c.shared_slice_known-2-1.given a.at)
-
-pub overflow_add-word : goal.overflow_add-word
-overflow_add-word c =
-    let a = c.args in
-    omega (arith, c.shared_slice_known-2-1.given a.at)
-
 pub returns-in-Graphic : goal.returns-in-Graphic
 returns-in-Graphic c =
     step_kept _ _ _ _

@@ -2,7 +2,7 @@
 use mathlib.Core.Path.{sym, ap}
 use native.Mathlib.Omega.{arith}
 use lib.ListN.{length}
-use Rattle.run.proofs.Puts.{put_none, put_as, put_one, put_two, put_three}
+use Rattle.run.proofs.Puts.{put_as, put_one, put_two, put_three}
 use Rattle.spelling.specs.declared.Spelling.{Spelling}
 use Rattle.spelling.specs.CanonicalSpelling.{octets_of}
 use Rattle.element_spelling.proofs.put_octets.Goals as goal
@@ -30,6 +30,3 @@ returns-in-ShiftedPair c =
     put_as (sym (ap octets_of x))
     (put_three (omega (arith, ap (λ (x : Spelling). length (octets_of x)) x)) c.put-i-in-ShiftedPair.ensures c.put-j.ensures
     c.put-in-ShiftedPair.ensures)
-
-pub returns-in-Unspelt : goal.returns-in-Unspelt
-returns-in-Unspelt c = put_as (sym (ap octets_of c.in-Unspelt.is)) (put_none _ _)

@@ -4,22 +4,20 @@ use native.Mathlib.Omega.{arith}
 use Rattle.element_spelling.proofs.Steps.{one_more, none_size, bare_size, after_size}
 use Rattle.element_spelling.proofs.word_size.Goals as goal
 
-pub returns-then-n-eq0 : goal.returns-then-n-eq0
-returns-then-n-eq0 c =
-    let a = c.args in
-    none_size a.form a.w _ _ c.octets_in-n.ensures c.word_spelling.ensures c.if-n-eq0.true
+pub returns-in_default : goal.returns-in_default
+returns-in_default c = let a = c.args in none_size a.form a.w (sym c.word_spelling.ensures ∙ c.in_default.is)
 
 pub overflow_add-result : goal.overflow_add-result
-overflow_add-result c = omega (arith, one_more c.word_spelling.result _ c.octets_in-n.ensures)
+overflow_add-result c = omega (arith, one_more c.in-Some.x _ c.octets_in-n.ensures)
 
 pub returns-then-is_underlined : goal.returns-then-is_underlined
 returns-then-is_underlined c =
     let a = c.args in
-    after_size a.form a.w _ _ c.octets_in-n.ensures c.word_spelling.ensures
-    (sym c.is_underlined.ensures ∙ c.if-is_underlined.true) c.if-n-eq0.false
+    after_size a.form a.w _ _ c.octets_in-n.ensures (sym c.word_spelling.ensures ∙ c.in-Some.is)
+    (sym c.is_underlined.ensures ∙ c.if-is_underlined.true)
 
 pub returns : goal.returns
 returns c =
     let a = c.args in
-    bare_size a.form a.w _ _ c.octets_in-n.ensures c.word_spelling.ensures
+    bare_size a.form a.w _ _ c.octets_in-n.ensures (sym c.word_spelling.ensures ∙ c.in-Some.is)
     (sym c.is_underlined.ensures ∙ c.if-is_underlined.false)

@@ -1,16 +1,20 @@
--- Each of the eight entries by its own call.
+-- Lists of up to seven end in zeros, each longer one in its eighth.
+use Rattle.std.proofs.Common.{◌≡◌, ◌∷◌, [], ◌++◌, length, take, drop, min, ℕ, List, refl, arith}
+use Rattle.sequence_reading.specs.EightValues.{values_of}
 use Rattle.element_words.proofs.values_of.Goals as goal
 
+filled : (l : List ℕ) → take (min (length l) 8) l ++ drop (min (length l) 8) (0 ∷ 0 ∷ 0 ∷ 0 ∷ 0 ∷ 0 ∷ 0 ∷ 0 ∷ []) ≡ values_of l
+filled [] = refl
+filled (a ∷ []) = refl
+filled (a ∷ (b ∷ [])) = refl
+filled (a ∷ (b ∷ (c ∷ []))) = refl
+filled (a ∷ (b ∷ (c ∷ (d ∷ [])))) = refl
+filled (a ∷ (b ∷ (c ∷ (d ∷ (e ∷ []))))) = refl
+filled (a ∷ (b ∷ (c ∷ (d ∷ (e ∷ (g ∷ [])))))) = refl
+filled (a ∷ (b ∷ (c ∷ (d ∷ (e ∷ (g ∷ (i ∷ []))))))) = refl
+filled (a ∷ (b ∷ (c ∷ (d ∷ (e ∷ (g ∷ (i ∷ (j ∷ l)))))))) =
+    let n : min (length (a ∷ b ∷ c ∷ d ∷ e ∷ g ∷ i ∷ j ∷ l)) 8 ≡ 8 = omega arith in
+    rw n
+
 pub returns : goal.returns
-returns c =
-    λ i.
-    record {
-      v0 = c.value_or_0.ensures i;
-      v1 = c.value_or_0-2.ensures i;
-      v2 = c.value_or_0-3.ensures i;
-      v3 = c.value_or_0-4.ensures i;
-      v4 = c.value_or_0-5.ensures i;
-      v5 = c.value_or_0-6.ensures i;
-      v6 = c.value_or_0-7.ensures i;
-      v7 = c.value_or_0-8.ensures i;
-    }
+returns c = rw (c.copy_from_slice.ensures.after, c.kept-n.ensures) (filled c.args.values.now)

@@ -5,4 +5,4 @@ use borrow.Author.Rules.{rules}
 use Rattle.lent_tables.proofs.code_in.Goals as goal
 
 pub returns : goal.returns
-returns c = c.wide.ensures ∙ sym (simp (lt-ltb c.args.octet 256 (search rules)))
+returns c = c.from.ensures ∙ sym (simp (lt-ltb c.args.octet 256 (search rules)))

@@ -8,4 +8,4 @@ returns-then-i-ge96 c = past_upper _ c.if-i-ge96.true
 
 pub returns : goal.returns
 unfolding upper
-returns c = c.wide.ensures ∙ in_upper _ c.if-i-ge96.false
+returns c = c.from.ensures ∙ in_upper _ c.if-i-ge96.false

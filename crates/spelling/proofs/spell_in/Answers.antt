@@ -1,30 +1,31 @@
 -- Each way out is the canonical spelling: `spelt_primary`, `spelt_spacing`, `spelt_nowhere`, `spelt_pair`.
-use mathlib.Core.Path.{sym, ◌∙◌}
+use mathlib.Core.Path.{ap, sym, ◌∙◌}
+use Rattle.std.specs.Prelude.{Some}
 use Rattle.spelling.proofs.SpellingWays.{spelt_primary, spelt_spacing, spelt_nowhere, spelt_pair}
 use Rattle.spelling.proofs.SpellingFacts.{spelling_kept}
 use Rattle.spelling.proofs.spell_in.Goals as goal
 
-pub returns-in-Is : goal.returns-in-Is
-returns-in-Is c = spelling_kept _ _ _ (spelt_primary _ _ _ (sym c.primary_octet-primary.ensures ∙ c.in-Is.is))
+pub returns-in-Some : goal.returns-in-Some
+returns-in-Some c = spelling_kept _ _ _ (spelt_primary _ _ _ (sym c.primary_octet.ensures ∙ c.in-Some.is))
 
-pub returns-in-Is-spacing : goal.returns-in-Is-spacing
-returns-in-Is-spacing c =
+pub returns-in-Some-find_spacing : goal.returns-in-Some-find_spacing
+returns-in-Some-find_spacing c =
     spelling_kept _ _ _
     (c.spell_spacing.ensures ∙ spelt_spacing _ _ _
-    (sym c.find_spacing-spacing.ensures.0 ∙ c.in-Is-spacing.is))
+    (sym c.find_spacing.ensures.0 ∙ c.in-Some-find_spacing.is))
 
-pub returns-in_default-pair : goal.returns-in_default-pair
-returns-in_default-pair c =
-    let no-primary = sym c.primary_octet-primary.ensures ∙ c.in_default.is in
-    let no_spacing = sym c.find_spacing-spacing.ensures.0 ∙ c.in_default-spacing.is in
+pub returns-in_err-mark : goal.returns-in_err-mark
+returns-in_err-mark c =
+    let no-primary = sym c.primary_octet.ensures ∙ c.in_default.is in
+    let no_spacing = sym c.find_spacing.ensures.0 ∙ c.in_default-find_spacing.is in
     spelling_kept _ _ _
-    (spelt_nowhere _ _ no-primary no_spacing (sym c.find_pair-pair.ensures.0 ∙ c.in_default-pair.is))
+    (c.from_residual.ensures ∙ spelt_nowhere _ _ no-primary no_spacing (sym c.find_pair.ensures.0 ∙ c.in_err-mark.was))
 
 pub returns : goal.returns
 returns c =
     spelling_kept _ _ _
-    (c.spell_pair.ensures
-    ∙ (let no-primary = sym c.primary_octet-primary.ensures ∙ c.in_default.is in
-    let no_spacing = sym c.find_spacing-spacing.ensures.0 ∙ c.in_default-spacing.is in
+    (ap Some c.spell_pair.ensures
+    ∙ (let no-primary = sym c.primary_octet.ensures ∙ c.in_default.is in
+    let no_spacing = sym c.find_spacing.ensures.0 ∙ c.in_default-find_spacing.is in
     spelt_pair _ _ no-primary no_spacing _ _
-    (sym c.find_pair-pair.ensures.0 ∙ c.in-Of.is)))
+    (sym c.find_pair.ensures.0 ∙ c.in_ok-mark.was)))

@@ -10,4 +10,4 @@ pub returns-then-column-ge53 : goal.returns-then-column-ge53
 returns-then-column-ge53 c = sym (simp (lt-leb 13 _ c.if-row-ge13.false, le-leb 53 _ c.if-column-ge53.true))
 
 pub returns : goal.returns
-returns c = c.wide.ensures ∙ sym (simp (lt-leb 13 _ c.if-row-ge13.false, lt-leb 53 _ c.if-column-ge53.false))
+returns c = c.from.ensures ∙ sym (simp (lt-leb 13 _ c.if-row-ge13.false, lt-leb 53 _ c.if-column-ge53.false))

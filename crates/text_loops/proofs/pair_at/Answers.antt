@@ -7,11 +7,11 @@ use Rattle.text_loops.proofs.pair_at.Goals as goal
 pub returns-then-text-at-lt2 : goal.returns-then-text-at-lt2
 returns-then-text-at-lt2 c =
     let a = c.args in
-    no_pair a.codes.now a.squares.now (drop a.at a.text.now)
+    no_pair _ _ (drop a.at a.text.now)
     (omega (arith, length-drop a.at a.text.now, c.if-text-at-lt2.true))
 
 pub returns : goal.returns
 returns c =
     let a = c.args in
-    pair_here a.codes.now a.squares.now a.text.now a.at _ _ (omega (arith, c.if-text-at-lt2.false))
-    c.code_in.ensures c.paired_in.ensures
+    pair_here _ _ a.text.now a.at _ _ (omega (arith, c.if-text-at-lt2.false))
+    c.code.ensures c.pair.ensures

@@ -1,29 +1,23 @@
--- The loop knows how much of the run it has counted (RunSoFar): one octet more (run_more), or the run's end (run_stop, run_end).
+-- The octets so far are such characters, and one more (run_more); up to the first that is none (run_stop), or the end (run_few).
+use lib.ListN.{length}
 use native.Mathlib.Omega.{arith}
-use Rattle.text_loops.proofs.RunsAndPairs.{run_start, run_end, run_stop, run_more, run_size}
+use Rattle.lent_tables.specs.CodeTables.{code_table}
+use Rattle.text_loops.proofs.RunsAndPairs.{run_few, run_more, run_stop}
 use Rattle.text_loops.proofs.run_within.Goals as goal
 
-pub loop-i-init : goal.loop-i-init
-loop-i-init c = run_start _ _ _ _
-
-pub returns-then-code_in-ge-NO_CHARACTER : goal.returns-then-code_in-ge-NO_CHARACTER
-returns-then-code_in-ge-NO_CHARACTER c =
+pub returns-then-code-ge-NO_CHARACTER-clause-counted : goal.returns-then-code-ge-NO_CHARACTER-clause-counted
+returns-then-code-ge-NO_CHARACTER-clause-counted c =
     let a = c.args in
-    let i = c.loop-i in
-    run_size a.codes.now a.text.now a.at a.most i.i i.invariant
-    (run_stop a.codes.now a.text.now a.at a.most i.i i.invariant c.loop-i-test.true c.requires _
-    c.code_in.ensures (omega (arith, c.if-code_in-ge-NO_CHARACTER.true)))
+    run_stop (code_table a.reader.now) a.octets.now _ c.loop-i-test.true c.loop-i.invariant
+    (omega (arith, c.code.ensures, c.if-code-ge-NO_CHARACTER.true))
 
 pub loop-i-preserved : goal.loop-i-preserved
 loop-i-preserved c =
     let a = c.args in
-    let i = c.loop-i in
-    run_more a.codes.now a.text.now a.at a.most i.i i.invariant c.loop-i-test.true c.requires _
-    c.code_in.ensures (omega arith)
+    let more = run_more (code_table a.reader.now) a.octets.now _ c.loop-i-test.true c.loop-i.invariant (omega (arith, c.code.ensures, c.if-code-ge-NO_CHARACTER.false)) in
+    omega (arith, more.0)
 
-pub returns : goal.returns
-returns c =
+pub returns-clause-counted : goal.returns-clause-counted
+returns-clause-counted c =
     let a = c.args in
-    let i = c.loop-i in
-    run_size a.codes.now a.text.now a.at a.most i.i i.invariant
-    (run_end a.codes.now a.text.now a.at a.most i.i i.invariant c.loop-i-test.false)
+    omega (arith, run_few (code_table a.reader.now) (length a.octets.now) a.octets.now)

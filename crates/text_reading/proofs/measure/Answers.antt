@@ -11,14 +11,14 @@ use Rattle.text_reading.proofs.measure.Goals as goal
 pub returns-in_default : goal.returns-in_default
 unfolding read_answer
 returns-in_default c =
-    let q = sym c.form_of-found.ensures.0 ∙ c.in_default.is in
+    let q = sym c.in_default.ensures.0 in
     carried_bare _ _ _ _ c.reading_of.ensures c.bare_answer.ensures (omega arith)
     (c.bare_answer.ensures ∙ no_form _ _ _ q)
 
 pub returns-then-text-gt-LIMIT : goal.returns-then-text-gt-LIMIT
 unfolding read_answer
 returns-then-text-gt-LIMIT c =
-    let is_form = sym c.form_of-found.ensures.0 ∙ c.in-Is.is in
+    let is_form = sym c.in-Ok.ensures.0 in
     let a = c.args in
     carried_bare _ _ _ _ c.reading_of-then-text-gt-LIMIT.ensures c.bare_answer-then-text-gt-LIMIT.ensures (omega arith)
     (c.bare_answer-then-text-gt-LIMIT.ensures ∙ a_form _ _ _ _ _ is_form (over a.text.now _ _ c.if-text-gt-LIMIT.true))
@@ -26,7 +26,7 @@ returns-then-text-gt-LIMIT c =
 pub returns : goal.returns
 unfolding read_answer respelled_in
 returns c =
-    let is_form = sym c.form_of-found.ensures.0 ∙ c.in-Is.is in
+    let is_form = sym c.in-Ok.ensures.0 in
     let a = c.args in
     let e = ap (λ (m : Measured). m.answer) c.measure_front-m.ensures ∙ enough _ a.text.now in
     let k = ap (λ (m : Measured). m.respelled) c.measure_front-m.ensures in

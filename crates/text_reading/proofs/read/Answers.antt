@@ -15,41 +15,41 @@ returns-in_default c =
     let a = c.args in
     let asked =
     asked_none _ a.text.now _ _ _ c.bare_answer.ensures
-    (sym c.form_of-found.ensures.0 ∙ c.in_default.is) in
+    (sym c.in_default.ensures.0) in
     (carried_bare _ _ _ _ c.reading_of.ensures c.bare_answer.ensures (omega arith) asked.0, asked.1)
 
 pub returns-then-text-gt-LIMIT : goal.returns-then-text-gt-LIMIT
 unfolding read_answer read_words
 returns-then-text-gt-LIMIT c =
-    let is_form = sym c.form_of-found.ensures.0 ∙ c.in-Is.is in
+    let is_form = sym c.in-Ok.ensures.0 in
     let a = c.args in
     let asked = asked_over _ a.text.now _ _ _ c.bare_answer-then-text-gt-LIMIT.ensures is_form c.if-text-gt-LIMIT.true in
     (carried_bare _ _ _ _ c.reading_of-then-text-gt-LIMIT.ensures c.bare_answer-then-text-gt-LIMIT.ensures (omega arith) asked.0, asked.1)
 
-pub returns-then-answer-ne0 : goal.returns-then-answer-ne0
+pub returns-then-m-ne0 : goal.returns-then-m-ne0
 unfolding read_answer read_words
-returns-then-answer-ne0 c =
-    let is_form = sym c.form_of-found.ensures.0 ∙ c.in-Is.is in
+returns-then-m-ne0 c =
+    let is_form = sym c.in-Ok.ensures.0 in
     let a = c.args in
-    let w = whole_refused _ _ _ c.read_front-m.ensures c.if-answer-ne0.true in
+    let w = whole_refused _ _ _ c.read_front-m.ensures c.if-m-ne0.true in
     let asked = asked_within _ a.text.now _ _ _ w is_form c.if-text-gt-LIMIT.false in
-    (carried_refused _ _ _ _ c.reading_of-then-answer-ne0.ensures c.if-answer-ne0.true asked.0, asked.1)
+    (carried_refused _ _ _ _ c.reading_of-then-m-ne0.ensures c.if-m-ne0.true asked.0, asked.1)
 
 pub returns-then-words-m : goal.returns-then-words-m
 unfolding read_answer read_words
 returns-then-words-m c =
-    let is_form = sym c.form_of-found.ensures.0 ∙ c.in-Is.is in
+    let is_form = sym c.in-Ok.ensures.0 in
     let a = c.args in
-    let w = whole_short _ _ _ c.read_front-m.ensures c.if-answer-ne0.false c.if-words-m.true in
+    let w = whole_short _ _ _ c.read_front-m.ensures c.if-m-ne0.false c.if-words-m.true in
     let asked = asked_within _ a.text.now _ _ _ (c.short_room.ensures ∙ w.0, w.1) is_form c.if-text-gt-LIMIT.false in
     (carried_nine _ _ _ _ c.reading_of-then-words-m.ensures c.short_room.ensures asked.0, asked.1)
 
 pub returns : goal.returns
 unfolding read_answer read_words respelled_in
 returns c =
-    let is_form = sym c.form_of-found.ensures.0 ∙ c.in-Is.is in
+    let is_form = sym c.in-Ok.ensures.0 in
     let a = c.args in
-    let w = whole_roomy _ _ _ c.read_front-m.ensures c.if-answer-ne0.false (omega arith) in
+    let w = whole_roomy _ _ _ c.read_front-m.ensures c.if-m-ne0.false (omega arith) in
     let asked = asked_within _ a.text.now _ _ _ w is_form c.if-text-gt-LIMIT.false in
     let k = ap (λ (m : Measured). m.respelled) c.read_front-m.ensures.0 in
     (carried _ _ _ _ c.reading_of-2.ensures asked.0 (a_form _ _ _ _ _ is_form k), asked.1)

@@ -10,19 +10,19 @@ unfolding lone_step
 returns-in_default c =
     let a = c.args in
     lone_kept a.form a.text.now a.at _
-    (no_form _ _ _ (sym c.form_of-found.ensures.0 ∙ c.in_default.is))
+    (no_form _ _ _ (sym c.in_default.ensures.0))
 
 pub returns-then-text-gt-LIMIT : goal.returns-then-text-gt-LIMIT
 unfolding lone_step
 returns-then-text-gt-LIMIT c =
     let a = c.args in
-    let q = sym c.form_of-found.ensures.0 ∙ c.in-Is.is in
+    let q = sym c.in-Ok.ensures.0 in
     lone_kept a.form a.text.now a.at _ (a_form _ _ _ _ _ q (over a.text.now _ _ c.if-text-gt-LIMIT.true))
 
 pub returns : goal.returns
 unfolding lone_step
 returns c =
     let a = c.args in
-    let q = sym c.form_of-found.ensures.0 ∙ c.in-Is.is in
+    let q = sym c.in-Ok.ensures.0 in
     lone_kept a.form a.text.now a.at _
     (a_form _ _ _ _ _ q (c.element_at.ensures.0 ∙ within a.text.now _ _ c.if-text-gt-LIMIT.false))

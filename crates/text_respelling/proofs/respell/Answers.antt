@@ -1,57 +1,39 @@
--- Over the limit is 12 (respell_over), else what respelling by the target's table comes to (respell_within).
+-- The first pass's refusal gives way to the reading's (carries_refusal); where it accepts, the text is read, and the answer is 9 where the
+-- room is short (carries_short), and its own, with what it has counted, where there is room (carries_count); within the limit, that is the
+-- whole answer (respell_within). That over the limit it is 12 the search finds.
 use Prim.Native.Nat.{◌≤◌}
-use mathlib.Core.Path.{sym, ap, ◌∙◌}
+use mathlib.Core.Path.{ap}
 use native.Mathlib.Omega.{arith}
 use lib.ListN.{length}
-use Rattle.spelling_tables.specs.PackedSpellings.{spelling_table}
+use Rattle.run.specs.declared.ReadAnswer.{ReadAnswer}
 use Rattle.text_reading.specs.ReadingNumbers.{limit}
-use Rattle.text_respelling.proofs.ReadingFirst.{respell_over, respell_within}
+use Rattle.text_respelling.proofs.ReadingFirst.{carries_refusal, carries_short, has_room, carries_count, respell_within}
 use Rattle.text_respelling.proofs.respell.Goals as goal
 
-pub returns-then-text-gt-LIMIT : goal.returns-then-text-gt-LIMIT
-returns-then-text-gt-LIMIT c =
-    let a = c.args in
-    respell_over a.source a.target a.text.now a.out.now c.if-text-gt-LIMIT.true c.bare_answer.ensures
-    c.reading_of.ensures
+pub returns-then-m-ne0 : goal.returns-then-m-ne0
+returns-then-m-ne0 c =
+    let l : length c.args.text.now ≤ limit = omega arith in
+    let m = rw (c.of_form-reader.ensures, c.of_form-speller.ensures) at c.measure_convert-m.ensures in
+    let four = ap (λ (r : ReadAnswer). r.answer) m in
+    respell_within _ _ _ _ l (carries_refusal _ _ _ _ _ four c.if-m-ne0.true c.reading_first.ensures c.reading_of-then-m-ne0.ensures)
 
-pub respell_by-requires : goal.respell_by-requires
-respell_by-requires c =
-    let l : length c.args.text.now ≤ limit = omega (arith, c.if-text-gt-LIMIT.false) in
-    record {
-      lent = c.table_eight-table.ensures ∙ ap spelling_table (sym c.in-Eight.is);
-      few = l;
-    }
+pub returns-then-out-m : goal.returns-then-out-m
+returns-then-out-m c =
+    let l : length c.args.text.now ≤ limit = omega arith in
+    let m = rw (c.of_form-reader.ensures, c.of_form-speller.ensures) at c.measure_convert-m.ensures in
+    let four = ap (λ (r : ReadAnswer). r.answer) m in
+    respell_within _ _ _ _ l
+    (carries_short _ _ _ _ _ four c.if-m-ne0.false c.if-out-m.true c.short_room.ensures c.reading_of-then-out-m.ensures)
 
-pub respell_by-requires-in-Seven : goal.respell_by-requires-in-Seven
-respell_by-requires-in-Seven c =
-    let l : length c.args.text.now ≤ limit = omega (arith, c.if-text-gt-LIMIT.false) in
-    record {
-      lent = c.table_seven-table.ensures ∙ ap spelling_table (sym c.in-Seven.is);
-      few = l;
-    }
+pub fill_convert-requires : goal.fill_convert-requires
+fill_convert-requires c =
+    let four = ap (λ (r : ReadAnswer). r.answer) c.measure_convert-m.ensures in
+    has_room _ _ _ c.args.out.now _ four c.if-m-ne0.false c.if-out-m.false
 
-pub respell_by-requires-in-Basic : goal.respell_by-requires-in-Basic
-respell_by-requires-in-Basic c =
-    let l : length c.args.text.now ≤ limit = omega (arith, c.if-text-gt-LIMIT.false) in
-    record {
-      lent = c.table_basic-table.ensures ∙ ap spelling_table (sym c.in-Basic.is);
-      few = l;
-    }
-
-pub returns-in-Eight : goal.returns-in-Eight
-returns-in-Eight c =
-    let a = c.args in
-    let l : length a.text.now ≤ limit = omega (arith, c.if-text-gt-LIMIT.false) in
-    respell_within a.source a.target a.text.now a.out.now l c.respell_by.ensures
-
-pub returns-in-Seven : goal.returns-in-Seven
-returns-in-Seven c =
-    let a = c.args in
-    let l : length a.text.now ≤ limit = omega (arith, c.if-text-gt-LIMIT.false) in
-    respell_within a.source a.target a.text.now a.out.now l c.respell_by-in-Seven.ensures
-
-pub returns-in-Basic : goal.returns-in-Basic
-returns-in-Basic c =
-    let a = c.args in
-    let l : length a.text.now ≤ limit = omega (arith, c.if-text-gt-LIMIT.false) in
-    respell_within a.source a.target a.text.now a.out.now l c.respell_by-in-Basic.ensures
+pub returns : goal.returns
+returns c =
+    let l : length c.args.text.now ≤ limit = omega arith in
+    let m = rw (c.of_form-reader.ensures, c.of_form-speller.ensures) at c.measure_convert-m.ensures in
+    let four = ap (λ (r : ReadAnswer). r.answer) m in
+    let filled = rw (c.of_form-reader.ensures, c.of_form-speller.ensures) at c.fill_convert.ensures in
+    respell_within _ _ _ _ l (carries_count _ _ _ _ _ four c.if-m-ne0.false c.if-out-m.false m filled)

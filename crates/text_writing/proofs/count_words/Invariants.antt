@@ -1,16 +1,7 @@
--- The loop over the run knows what it has counted, of whatever form the table is (run_turn).
-use Prim.Native.Nat.{◌-◌}
-use mathlib.Core.Path.{◌≡◌}
-use lib.ListN.{length}
-use Rattle.run.specs.Loops.{Counted}
-use Rattle.run.specs.Answers.{same}
-use Rattle.sorts.specs.declared.Form.{Form}
-use Rattle.spelling_tables.specs.PackedSpellings.{spelling_table}
-use Rattle.element_spelling.specs.ElementOctets.{spell_head}
+-- The loop over the run knows what it has counted, and that it is small (Counting): each character is counted by run_turn.
+use Rattle.element_words.specs.Words.{word_head}
+use Rattle.text_writing.proofs.Runs.{Counting}
 use Rattle.text_writing.proofs.count_words.Given as goal
 
-abbrev pub invariant-loop-at : goal.invariant-loop-at
-invariant-loop-at l = (f : Form) → l.table ≡ spelling_table f → Counted (spell_head f) same 34 l.words l.at l.at l.count
-
-abbrev pub decreases-loop-at : goal.decreases-loop-at
-decreases-loop-at l = length l.words - l.at
+abbrev pub invariant-loop-i : goal.invariant-loop-i
+invariant-loop-i l = Counting word_head l.speller l.words l.i l.i l.octets

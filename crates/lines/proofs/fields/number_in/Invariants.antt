@@ -1,7 +1,6 @@
--- `lines::fields::number_in` is safe and ends. The measure is what is left of the text.
--- Nothing has to hold from turn to turn. Assumes nothing.
-use Rattle.std.proofs.Common.{◌-◌, length}
+-- The number of so many digits, in `lines::fields::number_in`. Assumes nothing.
+use Rattle.std.proofs.Common.{◌<◌, ◌^◌}
 use Rattle.lines.proofs.fields.number_in.Given as goal
 
-abbrev pub decreases-loop-i : goal.decreases-loop-i
-decreases-loop-i l = length l.text - l.i
+abbrev pub invariant-loop-digit : goal.invariant-loop-digit
+invariant-loop-digit l = l.n < 16 ^ l.digit-index
