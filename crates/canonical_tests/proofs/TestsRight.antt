@@ -1,13 +1,13 @@
 -- What the tests say of octets that spell an element is whether they are its canonical spelling, over the form. What goes by the form are
 -- the tests of its tables, which antt computes; a line turns each into the fact.
 -- Assumes nothing.
-use Prim.Native.Nat.{ℕ, ◌+◌, ◌≤◌}
+use Prim.Native.Nat.{ℕ, ◌+◌, ◌≤◌, ◌<◌}
 use mathlib.Core.Path.{◌≡◌, refl, sym, ap, ap₂, ◌∙◌}
 use mathlib.Core.Bool.{Bool, true}
 use mathlib.Core.List.{List, [], ◌∷◌}
 use native.Mathlib.Omega.{arith}
-use lib.Dec.{leb}
-use borrow.Author.Tests.{le-leb}
+use lib.Dec.{leb, eqb}
+use borrow.Author.Tests.{le-leb, le-ltb, lt-ltb}
 use Rattle.run.specs.Choice.{pick, same_octets}
 use Rattle.run.proofs.Choices.{alike_tests, same_octets_are, are_same_octets}
 use Rattle.run.proofs.Members.{at_member}
@@ -38,6 +38,19 @@ use Rattle.sequence_spelling.proofs.Back.{spelt_fine}
 use Rattle.sequence_spelling.proofs.Exactly.{canonical_exactly}
 use Rattle.sequence_spelling.proofs.CanonicalBehind.{canonical_behind_lem}
 use Rattle.element_spelling.proofs.Writer.{spell_graphic, spell_underlined, spell_control, spell_sequence_lem}
+
+-- ---- the ways out of the test of one word where no table is asked
+
+module _ (word last size : ℕ) where
+  pub ascii : (f : Form) → (f ≡ Basic → ⊥) → word < 0x80 → eqb size 1 ≡ word_canonical f word last size
+  ascii Eight o h = rw (lt-ltb word 0x80 h)
+  ascii Seven o h = rw (lt-ltb word 0x80 h)
+  ascii Basic o h = absurd (o refl)
+
+  pub not_ascii : (f : Form) → (f ≡ Basic → ⊥) → 0x80 ≤ word → true ≡ word_canonical f word last size
+  not_ascii Eight o h = rw (le-ltb word 0x80 h)
+  not_ascii Seven o h = rw (le-ltb word 0x80 h)
+  not_ascii Basic o h = absurd (o refl)
 
 -- ---- the tests of a form's tables
 

@@ -62,10 +62,10 @@ impl fmt::Display for HeaderFault {
 impl Error for HeaderFault {}
 
 // The octet at a place; 0 where there is none.
-fn octet_at(octets: &[u8], at: usize) -> usize
+fn octet_at(octets: &[u8], at: usize) -> u8
     ensures { (result ≡ get_or octets.now at 0) × (result < 0x100) }
 {
-    octets.get(at).copied().unwrap_or(0) as usize
+    octets.get(at).copied().unwrap_or(0)
 }
 
 // 01: "big-endian 16-bit": the number in the two octets from a place on; an octet that is not there says 0.
@@ -77,7 +77,7 @@ pub fn number_at(octets: &[u8], at: usize) -> usize
     }
     let high = octet_at(octets, at);
     let low = octet_at(octets, at + 1);
-    256 * high + low
+    u16::from_be_bytes([high, low]) as usize
 }
 
 // 01: "Octets 54 4C 58".

@@ -45,8 +45,7 @@ fn put_number(out: &mut [u8], at: usize, n: u32) -> usize
     requires { (at + 2 ≤ length out.old) × (n < 0x10000) }
     ensures { Put out.old at (big16 n) out.new result }
 {
-    let i = run::put(out, at, (n / 256) as u8);
-    run::put(out, i, (n % 256) as u8)
+    put_all(&(n as u16).to_be_bytes(), out, at)
 }
 
 // The octets as they are.

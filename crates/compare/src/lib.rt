@@ -1,7 +1,7 @@
 // What changed between two texts of one form (document 02, No. 4).
 #![tactic(auto)]
 
-ghost use Rattle.std.specs.Prelude.{◌≡◌, ◌↔◌, ◌+◌, ◌≤◌, IsTrue, length, take, drop};
+ghost use Rattle.std.specs.Prelude.{◌≡◌, ◌↔◌, ◌+◌, ◌≤◌, IsTrue, IsSomeAnd, length, take, drop};
 ghost use Rattle.compare.specs.WhatChanged.{refused_by, differ_at};
 ghost use Rattle.compare.specs.Comparing.{shared_of, told_by, compared_in};
 ghost use Rattle.compare.specs.Walking.{Stands, SizeOf, ReadThrough, shared_here, shared_in};
@@ -73,21 +73,21 @@ fn same_octets(first: &[u8], i: usize, second: &[u8], j: usize, size: usize) -> 
 
 // How many octets the element at a place has: one of a spacing character, two of a mark and its follower, by what the octet is by itself; any
 // other is read.
-fn size_at(reader: &Reader, text: &[u8], at: usize) -> usize
+fn size_at(reader: &Reader, text: &[u8], at: usize) -> Option<usize>
     requires { Stands reader.now (drop at text.now) }
-    ensures { SizeOf reader.now (drop at text.now) result }
+    ensures { IsSomeAnd result (SizeOf reader.now (drop at text.now)) }
 {
     let code = reader.code(text[at]);
     if code < lent_tables::NO_CHARACTER {
-        return 1;
+        return Some(1);
     }
     if code < lent_tables::NEITHER {
-        return 2;
+        return Some(2);
     }
     let Step::Element(_, next, _) = element_reading::element_at(reader.form(), text, at) else {
-        return 0;
+        return None;
     };
-    next - at
+    Some(next - at)
 }
 
 // What both texts share at a place of each: one element, or nothing where the two that stand there differ. Of an element that the same
@@ -100,7 +100,7 @@ fn shared_at(reader: &Reader, first: &[u8], i: usize, second: &[u8], j: usize) -
     if octet == second[j] && reader.code(octet) < lent_tables::NO_CHARACTER {
         return Some(Shared::alike(1));
     }
-    let size = size_at(reader, first, i);
+    let size = size_at(reader, first, i)?;
     if same_octets(first, i, second, j, size) {
         return Some(Shared::alike(size));
     }

@@ -26,7 +26,7 @@ use Rattle.canonical_tests.specs.Tests.{word_canonical}
 use Rattle.element_reading.specs.declared.Step.TheVariants.{Element as Read, Refused as Stopped, End}
 use Rattle.element_words.specs.Words.{sequences_from}
 use Rattle.element_words.specs.Words.{graphic_word, control_word, head_word}
-use Rattle.element_reading.specs.ElementHead.{high_or, pair_head, follower_head, second_sort, second_head, as_element}
+use Rattle.element_reading.specs.ElementHead.{high_or, pair_head, follower_head, as_element}
 use Rattle.element_reading.specs.ElementHead.{head_sort, head_in, step_at}
 use Rattle.element_reading.specs.StepTests.{test_by, step_by}
 use Rattle.element_reading.proofs.StepsRight.{step_right}
@@ -140,20 +140,7 @@ module _ (f : Form) (text : List ℕ) where
         ∙ ap (λ (k : ℕ). Read (One (graphic_word u c)) k (test_by f text at (One (graphic_word u c)) (i - at + 1))) n
         ∙ sym (follower_here h ∙ ap (λ (x : Option ℕ). step_by f text at (pair_head u (i - at) x (sort_in f (get_or text i 0)))) e)
 
-  -- ---- after SS2 and after CC
   module _ (at : ℕ) where
-    module _ (u : Bool) (k : ℕ) (sort : ℕ → Sort) where
-      pub second_end : length text ≤ at + 1 → Stopped 4 at (at + 1) ≡ step_by f text at (second_head f u k sort (drop (at + 1) text))
-      second_end h = sym (ap (λ (l : List ℕ). step_by f text at (second_head f u k sort l)) (drop_of_length-le text h))
-
-      pub second_here : (s : Sort) → at + 1 < length text → s ≡ sort (get_or text (at + 1) 0)
-          → step_by f text at (second_sort f u k s (drop (at + 2) text)) ≡ step_by f text at (second_head f u k sort (drop (at + 1) text))
-      second_here s h e =
-          let n : at + 2 ≡ at + 1 + 1 = omega arith in
-          ap₂ (λ (x : Sort) (i : ℕ). step_by f text at (second_sort f u k x (drop i text))) e n
-          ∙ sym (ap (λ (l : List ℕ). step_by f text at (second_head f u k sort l)) (at_place text (at + 1) h))
-
-    -- a spacing character there
     -- the follower of a mark, d octets behind the first
     pub follower_behind : (d m : ℕ) (u : Bool)
         → step_by f text at (follower_head f m u (at + d - at) (drop (at + d) text))

@@ -6,7 +6,7 @@ ghost use Rattle.sorts.specs.declared.Sort.TheVariants.{Graphic};
 ghost use Rattle.sequence_reading.specs.SequenceHead.{sequence_head};
 ghost use Rattle.element_words.specs.Words.{sequences_from, graphic_word};
 ghost use Rattle.element_reading.specs.declared.Step.TheVariants.{Refused as Stopped};
-ghost use Rattle.element_reading.specs.ElementHead.{high_or, follower_head, second_sort, shifted_head, underlined_head, as_element};
+ghost use Rattle.element_reading.specs.ElementHead.{high_or, follower_head, second_head, as_element};
 ghost use Rattle.element_reading.specs.StepTests.{step_by};
 ghost use Rattle.element_reading.specs.Promises.{ElementAtPromise};
 
@@ -82,47 +82,41 @@ fn follower_step(form: Form, mark: u8, under: bool, text: &[u8], at: usize, i: u
     )
 }
 
-// What follows the SS2 or CC at `at`, by the sort of the octet there; what may not follow is refused with a number.
-fn second_step(form: Form, sort: Sort, under: bool, number: usize, text: &[u8], at: usize) -> Step
-    requires { (at + 1 < length text.now) × ((c : ℕ) → sort ≡ Graphic c → c < 0x10000) }
-    ensures { result ≡ step_by form text.now at (second_sort form under number sort (drop (at + 2) text.now)) }
+// What follows the SS2 or CC at `at`, by what `sort_of` says of the octet there; what may not follow is refused with a number.
+// 01: SS2 stands "before the supplementary octet only; the letter of a pair follows bare".
+// 01: "CC stands before a spacing character, or before a mark with its follower."
+fn second_step<F: Fn(u8) -> Sort>(
+    form: Form,
+    sort_of: F,
+    under: bool,
+    number: usize,
+    text: &[u8],
+    at: usize,
+) -> Step
+    requires room { at < length text.now }
+    requires callable { F.IsAlwaysCallable sort_of }
+    requires small { (o c : ℕ) → F.post sort_of o (Graphic c) → c < 0x10000 }
+    ensures { (sort : ℕ → Sort) → ((o : ℕ) (s : Sort) → F.post sort_of o s → s ≡ sort o)
+        → result ≡ step_by form text.now at (second_head form under number sort (drop (at + 1) text.now)) }
 {
+    let i = at + 1;
+    if text.len() <= i {
+        return refused_at(4, at, i);
+    }
+    let o = text[i];
+    let sort = sort_of(o);
     match sort {
         Sort::Graphic(c) => {
             let word = graphic_word(under, c);
             Step::Element(
                 Element::One(word),
                 at + 2,
-                canonical_tests::word_is_canonical(form, word, text[at + 1], 2),
+                canonical_tests::word_is_canonical(form, word, o, 2),
             )
         }
         Sort::Mark(m) => follower_step(form, m, under, text, at, at + 2),
-        _ => refused_at(high_or(sort, number), at, at + 1),
+        _ => refused_at(high_or(sort, number), at, i),
     }
-}
-
-// What follows the SS2 at `at`. 01: SS2 stands "before the supplementary octet only; the letter of a pair follows bare".
-fn shift_step(form: Form, text: &[u8], at: usize) -> Step
-    requires { at < length text.now }
-    ensures { result ≡ step_by form text.now at (shifted_head form (drop (at + 1) text.now)) }
-{
-    let i = at + 1;
-    if text.len() <= i {
-        return refused_at(4, at, i);
-    }
-    second_step(form, sorts::sort_shifted(form, text[i]), false, 1, text, at)
-}
-
-// What follows the CC at `at`. 01: "CC stands before a spacing character, or before a mark with its follower."
-fn underline_step(form: Form, text: &[u8], at: usize) -> Step
-    requires { at < length text.now }
-    ensures { result ≡ step_by form text.now at (underlined_head form (drop (at + 1) text.now)) }
-{
-    let i = at + 1;
-    if text.len() <= i {
-        return refused_at(4, at, i);
-    }
-    second_step(form, sorts::sort_in(form, text[i]), true, 3, text, at)
 }
 
 // 01: "Sequence: 2^26 + 65536 x intermediate (0 if none) + 256 x final + number of values".
@@ -178,8 +172,22 @@ pub fn element_at(form: Form, text: &[u8], at: usize) -> Step
             canonical_tests::word_is_canonical(form, c, o, 1),
         ),
         Sort::Mark(m) => follower_step(form, m, false, text, at, at + 1),
-        Sort::Underline => underline_step(form, text, at),
-        Sort::Shift => shift_step(form, text, at),
+        Sort::Underline => second_step(
+            form,
+            |octet| sorts::sort_in(form, octet),
+            true,
+            3,
+            text,
+            at,
+        ),
+        Sort::Shift => second_step(
+            form,
+            |octet| sorts::sort_shifted(form, octet),
+            false,
+            1,
+            text,
+            at,
+        ),
         Sort::Control => {
             let word = element_words::CONTROLS_FROM + u32::from(o);
             Step::Element(

@@ -1,5 +1,6 @@
 // The parts of a text, the fields of a line among them, and the hexadecimal digits in them.
-ghost use Rattle.std.specs.Prelude.{◌≡◌, ◌<◌, ◌≤◌, ◌^◌, length, vec_len, IfOk, IfSome};
+ghost use Rattle.std.specs.Prelude.{◌-◌, ◌≡◌, ◌<◌, ◌≤◌, ◌^◌, length, vec_len, IfOk, IfSome};
+ghost use Rattle.io.specs.Counts.{IsPrefixLen};
 ghost use Rattle.std.specs.Iterator.{at_most};
 
 use std::alloc::{AllocError, Global};
@@ -59,8 +60,16 @@ pub fn rest(line: &[u8], k: usize) -> &[u8]
     after(line, b',', k).rest
 }
 
+// What stands from `at` on, up to the next `end` or the end of the text. Past the end of the text nothing does.
+pub fn part(text: &[u8], at: usize, end: u8) -> &[u8]
+    ensures { length result.now ≤ length text.now - at }
+{
+    let text = text.get(at..).unwrap_or_default();
+    split(text, end).next().unwrap_or_default()
+}
+
 // What stands between the first `k` ends and the next one. Past the last there is nothing.
-pub fn part(text: &[u8], end: u8, k: usize) -> &[u8]
+pub fn nth_part(text: &[u8], end: u8, k: usize) -> &[u8]
     ensures { length result.now ≤ length text.now }
 {
     after(text, end, k).next().unwrap_or_default()
@@ -69,7 +78,7 @@ pub fn part(text: &[u8], end: u8, k: usize) -> &[u8]
 pub fn field(line: &[u8], k: usize) -> &[u8]
     ensures { length result.now ≤ length line.now }
 {
-    part(line, b',', k)
+    nth_part(line, b',', k)
 }
 
 // No other digit counts: small letters stand for 0 too.
@@ -94,6 +103,11 @@ pub fn number_in(text: &[u8]) -> u32
     n
 }
 
+// The octet that two digits give.
+fn octet_of(pair: &[u8]) -> u8 {
+    (number_in(pair) % 0x100) as u8
+}
+
 pub fn number_at(line: &[u8], k: usize) -> u32
     ensures { length line.now ≡ 0 → result ≡ 0 }
 {
@@ -107,18 +121,37 @@ pub fn size_at(line: &[u8], k: usize) -> usize
     number_at(line, k) as usize
 }
 
-// The octets that are written as `C265`, at most so many.
-pub fn octets_in(alloc: Global, text: &[u8], most: usize) -> Result<Vec<u8>, AllocError>
-    ensures { IfOk result (λ v. vec_len v ≤ most) }
+// Puts the octets that are written as `C265`, and answers how many there are, as far as there is room.
+pub fn octets_in(text: &[u8], out: &mut [u8]) -> usize
+    ensures { IsPrefixLen result out.new }
 {
-    text.chunks_exact(2)
-        .take(most)
-        .map(|pair| (number_in(pair) % 0x100) as u8)
-        .collect(alloc)
+    let n = out.len().min(text.len() / 2);
+    for (place, pair) in out.iter_mut().zip(text.chunks_exact(2)) {
+        *place = octet_of(pair);
+    }
+    n
 }
 
-// The words that are written as `04006D01 0004`, at most so many.
-pub fn words_in(alloc: Global, text: &[u8], most: usize) -> Result<Vec<u32>, AllocError>
+// Puts the words that are written as `04006D01 0004`, and answers how many there are, as far as there is room.
+pub fn words_in(text: &[u8], out: &mut [u32]) -> usize
+    ensures { IsPrefixLen result out.new }
+{
+    let n = out.len().min(split(text, b' ').count());
+    for (place, word) in out.iter_mut().zip(split(text, b' ')) {
+        *place = number_in(word);
+    }
+    n
+}
+
+// The octets that are written so, at most so many.
+pub fn octet_list(alloc: Global, text: &[u8], most: usize) -> Result<Vec<u8>, AllocError>
+    ensures { IfOk result (λ v. vec_len v ≤ most) }
+{
+    text.chunks_exact(2).take(most).map(octet_of).collect(alloc)
+}
+
+// The words that are written so, at most so many.
+pub fn word_list(alloc: Global, text: &[u8], most: usize) -> Result<Vec<u32>, AllocError>
     ensures { IfOk result (λ v. vec_len v ≤ most) }
 {
     split(text, b' ').take(most).map(number_in).collect(alloc)

@@ -90,7 +90,8 @@ fn pair_from(number: u16) -> Option<(u8, u8)>
     if number == 0 {
         return None;
     }
-    Some(((number / 0x100) as u8, (number % 0x100) as u8))
+    let [mark, follower] = number.to_be_bytes();
+    Some((mark, follower))
 }
 
 // The mark and the follower of a character, looked up in its page.

@@ -22,18 +22,17 @@ fn print_form(rt: &impl Print, number: u32) -> io::Result<()> {
     }
 }
 
-fn print_sorts(rt: &impl Print, form: Form) -> io::Result<()> {
+fn print_sorts<SortOf: Fn(u8) -> Sort>(
+    rt: &impl Print,
+    word: &str,
+    form: Form,
+    sort_of: SortOf,
+) -> io::Result<()>
+    requires { SortOf.IsAlwaysCallable sort_of }
+{
     for octet in 0..=0xFFu8 {
-        let sort = Said(sorts::sort_in(form, octet));
-        println!(rt; "sort{}{} ={sort}", Said(form), Said(octet))?;
-    }
-    Ok(())
-}
-
-fn print_shifted(rt: &impl Print, form: Form) -> io::Result<()> {
-    for octet in 0..=0xFFu8 {
-        let sort = Said(sorts::sort_shifted(form, octet));
-        println!(rt; "shifted{}{} ={sort}", Said(form), Said(octet))?;
+        let sort = Said(sort_of(octet));
+        println!(rt; "{word}{}{} ={sort}", Said(form), Said(octet))?;
     }
     Ok(())
 }
@@ -93,10 +92,15 @@ fn main(rt: HostRuntime) -> io::Result<()> {
         print_form(&rt, number)?;
     }
     for form in FORMS {
-        print_sorts(&rt, form)?;
+        print_sorts(&rt, "sort", form, |octet| sorts::sort_in(form, octet))?;
     }
     for form in FORMS {
-        print_shifted(&rt, form)?;
+        print_sorts(
+            &rt,
+            "shifted",
+            form,
+            |octet| sorts::sort_shifted(form, octet),
+        )?;
     }
     for form in FORMS {
         print_pairs(&rt, form)?;

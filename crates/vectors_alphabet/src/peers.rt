@@ -77,7 +77,7 @@ fn is_same(theirs: &[u8], ours: Option<Character>) -> bool {
 // Whether the line's answer is ours, printed where it is not. Some of the files end a line with CR and LF.
 fn compare_line(rt: &impl Print, name: &str, form: Form, line: &[u8]) -> io::Result<bool> {
     let octets = field(line, 0);
-    let theirs = part(rest(line, 1), b'\r', 0);
+    let theirs = part(rest(line, 1), 0, b'\r');
     let ours = read_octets(form, octets);
     if is_same(theirs, ours) {
         return Ok(true);

@@ -6,7 +6,7 @@
 #![tactic(auto)]
 
 use lines::answer::{Numbers, Octets, Place};
-use lines::fields::{field, number_at, octets_in};
+use lines::fields::{field, number_at, octet_list};
 use lines::vectors::run_file;
 use std::alloc::{AllocError, Global};
 use std::{fmt, io};
@@ -71,8 +71,8 @@ impl fmt::Display for Compared {
 // The eleven numbers, and the octets of the part, which is of the one text or of the other.
 fn answer(alloc: Global, line: &[u8]) -> Result<String, AllocError> {
     let form = number_at(line, 0);
-    let first = octets_in(alloc, field(line, 1), 256)?;
-    let second = octets_in(alloc, field(line, 2), 256)?;
+    let first = octet_list(alloc, field(line, 1), 256)?;
+    let second = octet_list(alloc, field(line, 2), 256)?;
     let numbers = Compared(compare::compared(form, &first, &second));
     let part = Octets(compare::compare(form, &first, &second));
     format!(in alloc; "{numbers},{part}")

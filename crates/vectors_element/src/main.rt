@@ -16,7 +16,7 @@ mod words;
 use element_reading::Step;
 use element_words::Meant;
 use lines::answer::{Canonical, Place, Refusal};
-use lines::fields::{field, octets_in, size_at, words_in};
+use lines::fields::{field, octet_list, size_at, word_list};
 use lines::vectors::run_file;
 use sorts::Form;
 use spelt::put_spelling;
@@ -26,7 +26,7 @@ use words::put_element;
 
 // What stands at the place of the octets.
 fn answer_reading(alloc: Global, form: Form, line: &[u8]) -> Result<String, AllocError> {
-    let octets = octets_in(alloc, field(line, 0), 64)?;
+    let octets = octet_list(alloc, field(line, 0), 64)?;
     let mut out = String::new(alloc);
     match element_reading::element_at(form, &octets, size_at(line, 1)) {
         Step::Element(e, next, canonical) => {
@@ -52,7 +52,7 @@ fn answer_reading(alloc: Global, form: Form, line: &[u8]) -> Result<String, Allo
 
 // What the words at the place are, and its spelling in each form. 01: number 10 has the place of its first word, and no count.
 fn answer_words(alloc: Global, line: &[u8]) -> Result<String, AllocError> {
-    let words = words_in(alloc, field(line, 0), 16)?;
+    let words = word_list(alloc, field(line, 0), 16)?;
     let place = size_at(line, 1);
     let mut out = String::new(alloc);
     match element_words::element_of(&words, place) {

@@ -1,11 +1,9 @@
 // An element's parts as text, and whether the words that `put_words` puts are these parts.
-ghost use Rattle.std.specs.Prelude.{◌≡◌, ◌≤◌, length};
-
 use crate::rooms::{Writer, uses_rooms};
 use element_words::Element;
 use lines::answer::Word;
 use std::alloc::{AllocError, Global};
-use std::array;
+use std::iter;
 
 #[derive(Clone, Copy)]
 struct Words(Element);
@@ -18,39 +16,39 @@ impl Writer for Words {
     }
 }
 
-// The word, or the head and the values: in nine places, and with zeros past one word.
-fn parts_of(e: Element) -> [u32; 9]
-    ensures { 9 ≡ length result }
-{
+// The word, or the head and the values.
+fn words_of(alloc: Global, e: Element) -> Result<Vec<u32>, AllocError> {
     match e {
-        Element::One(word) => [word, 0, 0, 0, 0, 0, 0, 0, 0],
-        Element::Sequence { head, values, .. } => array::from_fn(|k| match k {
-            0 => head,
-            _ => sequence_reading::value_at(&values, k - 1),
-        }),
+        Element::One(word) => iter::once(word).collect(alloc),
+        Element::Sequence {
+            head,
+            count,
+            values,
+        } => iter::once(head)
+            .chain(values.iter().copied().take(count))
+            .collect(alloc),
     }
 }
 
-// How many words the parts make; 0 where there are more values than eight.
-fn size_of(e: Element) -> usize
-    ensures { result ≤ 9 }
-{
+// "zeros past the number of values", which is no more than eight.
+fn has_zeros_past(e: Element) -> bool {
     match e {
-        Element::One(_) => 1,
-        Element::Sequence { count, .. } => if count <= 8 { count + 1 } else { 0 },
+        Element::One(_) => true,
+        Element::Sequence { count, values, .. } => {
+            count <= values.len() && values.iter().skip(count).all(|value| *value == 0)
+        }
     }
 }
 
-// The parts, a space after each; then `?` where the words are others. "zeros past the number of values"
+// The words, a space after each; then `?` where the element's words are others.
 pub(crate) fn put_element(alloc: Global, out: &mut String, e: Element) -> Result<(), AllocError> {
-    let parts = parts_of(e);
-    let (words, past) = parts.split_at(size_of(e));
-    for word in words {
+    let words = words_of(alloc, e)?;
+    for word in words.iter() {
         write!(out, "{} ", Word(*word))?;
     }
     if element_words::words_in(e) != words.len()
-        || past.iter().any(|part| *part != 0)
-        || !uses_rooms(alloc, &Words(e), words)?
+        || !has_zeros_past(e)
+        || !uses_rooms(alloc, &Words(e), &words)?
     {
         write!(out, "?")?;
     }

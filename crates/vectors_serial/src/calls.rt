@@ -1,6 +1,6 @@
 // The functions of `serial`, called as a line says, with a part of a larger room, and what they answer as text.
 use lines::answer::{Numbers, Octets, Place, unasked};
-use lines::fields::{field, number_at, number_in, octets_in, part, size_at, split};
+use lines::fields::{field, nth_part, number_at, number_in, octet_list, octets_in, size_at, split};
 use lines::room::{Put, room};
 use run::Answer;
 use serial::{Carry, Fed};
@@ -66,13 +66,10 @@ impl fmt::Display for Outcome<'_> {
 }
 
 // The carry whose fields a line begins with.
-fn carry_in(alloc: Global, line: &[u8]) -> Result<Carry, AllocError> {
+fn carry_in(line: &[u8]) -> Carry {
     let mut held = [0; 39];
-    let octets = octets_in(alloc, field(line, 0), 39)?;
-    for (to, octet) in held.iter_mut().zip(octets.iter()) {
-        *to = *octet;
-    }
-    Ok(Carry {
+    octets_in(field(line, 0), &mut held);
+    Carry {
         answer: Answer {
             number: size_at(line, 1),
             element: size_at(line, 2),
@@ -84,7 +81,7 @@ fn carry_in(alloc: Global, line: &[u8]) -> Result<Carry, AllocError> {
         form: number_at(line, 7),
         stopped: number_at(line, 8),
         held,
-    })
+    }
 }
 
 // One call: piece, room, and whether the page ends. Its outcome is put, and the carry that it leaves is answered.
@@ -94,9 +91,9 @@ fn put_call(
     carry: Carry,
     call: &[u8],
 ) -> Result<Carry, AllocError> {
-    let piece = octets_in(alloc, part(call, b' ', 0), 256)?;
-    let size = number_in(part(call, b' ', 1)) as usize;
-    let ended = number_in(part(call, b' ', 2)) != 0;
+    let piece = octet_list(alloc, nth_part(call, b' ', 0), 256)?;
+    let size = number_in(nth_part(call, b' ', 1)) as usize;
+    let ended = number_in(nth_part(call, b' ', 2)) != 0;
     let mut words = room(alloc, 256)?;
     let fed = match words.as_mut_slice().get_mut(..size) {
         Some(lent) => carry.feed(&piece, ended, lent),
@@ -136,6 +133,6 @@ pub(crate) fn answer_fresh(alloc: Global, line: &[u8]) -> Result<String, AllocEr
 // From the fields of a carry.
 pub(crate) fn answer_carried(alloc: Global, line: &[u8]) -> Result<String, AllocError> {
     let mut out = String::new(alloc);
-    put_calls(alloc, &mut out, carry_in(alloc, line)?, field(line, 9))?;
+    put_calls(alloc, &mut out, carry_in(line), field(line, 9))?;
     Ok(out)
 }

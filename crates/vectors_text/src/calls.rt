@@ -1,7 +1,7 @@
 // The functions of `text`, called with a part of a larger room, and what they answer as text.
 use element_reading::Step;
 use lines::answer::{Canonical, Numbers, Place, Reading, Refusal, unasked, written};
-use lines::fields::{field, number_at, number_in, octets_in, part, size_at, words_in};
+use lines::fields::{field, nth_part, number_at, number_in, octet_list, size_at, word_list};
 use lines::room::{Entry, Put, room};
 use run::ReadAnswer;
 use std::alloc::{AllocError, Global};
@@ -20,7 +20,7 @@ fn said<E: Entry>(alloc: Global, reading: ReadAnswer, room: &[E]) -> Result<Stri
 // The text's answer, and the words that it puts.
 pub(crate) fn answer_reading(alloc: Global, line: &[u8]) -> Result<String, AllocError> {
     let form = number_at(line, 0);
-    let octets = octets_in(alloc, field(line, 1), 512)?;
+    let octets = octet_list(alloc, field(line, 1), 512)?;
     let mut words = room(alloc, 512)?;
     let reading = match words.as_mut_slice().get_mut(..size_at(line, 2)) {
         Some(lent) => text::read(form, &octets, lent),
@@ -32,7 +32,7 @@ pub(crate) fn answer_reading(alloc: Global, line: &[u8]) -> Result<String, Alloc
 // One element's answer, and the words that it puts.
 pub(crate) fn answer_one(alloc: Global, line: &[u8]) -> Result<String, AllocError> {
     let form = number_at(line, 0);
-    let octets = octets_in(alloc, field(line, 1), 512)?;
+    let octets = octet_list(alloc, field(line, 1), 512)?;
     let at = size_at(line, 2);
     let mut words = room(alloc, 512)?;
     let reading = match words.as_mut_slice().get_mut(..size_at(line, 3)) {
@@ -45,7 +45,7 @@ pub(crate) fn answer_one(alloc: Global, line: &[u8]) -> Result<String, AllocErro
 // The words' answer, and the octets that it puts.
 pub(crate) fn answer_writing(alloc: Global, line: &[u8]) -> Result<String, AllocError> {
     let form = number_at(line, 0);
-    let words = words_in(alloc, field(line, 1), 512)?;
+    let words = word_list(alloc, field(line, 1), 512)?;
     let mut octets = room(alloc, 1024)?;
     let answer = match octets.as_mut_slice().get_mut(..size_at(line, 2)) {
         Some(lent) => text::write(form, &words, lent),
@@ -58,9 +58,9 @@ pub(crate) fn answer_writing(alloc: Global, line: &[u8]) -> Result<String, Alloc
 
 // The conversion's answer, and the octets that it puts. The two forms stand as `1 3`.
 pub(crate) fn answer_converting(alloc: Global, line: &[u8]) -> Result<String, AllocError> {
-    let source = number_in(part(field(line, 0), b' ', 0));
-    let target = number_in(part(field(line, 0), b' ', 1));
-    let octets = octets_in(alloc, field(line, 1), 512)?;
+    let source = number_in(nth_part(field(line, 0), b' ', 0));
+    let target = number_in(nth_part(field(line, 0), b' ', 1));
+    let octets = octet_list(alloc, field(line, 1), 512)?;
     let mut converted = room(alloc, 1024)?;
     let reading = match converted.as_mut_slice().get_mut(..size_at(line, 2)) {
         Some(lent) => text::convert(source, target, &octets, lent),
@@ -71,7 +71,7 @@ pub(crate) fn answer_converting(alloc: Global, line: &[u8]) -> Result<String, Al
 
 // What stands at the place of the text: the element's words, the place after it, and whether it was canonical.
 pub(crate) fn answer_element(alloc: Global, line: &[u8]) -> Result<String, AllocError> {
-    let octets = octets_in(alloc, field(line, 1), 512)?;
+    let octets = octet_list(alloc, field(line, 1), 512)?;
     match text::read_element(number_at(line, 0), &octets, size_at(line, 2)) {
         Step::Element(e, next, canonical) => {
             let mut words = room(alloc, 16)?;

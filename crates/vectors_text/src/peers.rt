@@ -2,7 +2,7 @@
 //
 // A file has a heading and a line a text, in hex: its octets, the code points that the C library gave, and how many octets it took,
 // which are fewer than there are where it refused the code that comes next.
-use lines::fields::{field, octets_in, size_at, split, words_in};
+use lines::fields::{field, octet_list, size_at, split, word_list};
 use lines::files::read_file;
 use std::alloc::{AllocError, Global};
 use std::io;
@@ -110,8 +110,8 @@ fn compare_taken(form: u32, octets: &[u8], taken: usize, theirs: &[u32]) -> Verd
 }
 
 fn compare_line(alloc: Global, form: u32, line: &[u8]) -> Result<Verdict, AllocError> {
-    let octets = octets_in(alloc, field(line, 0), 256)?;
-    let theirs = words_in(alloc, field(line, 1), 256)?;
+    let octets = octet_list(alloc, field(line, 0), 256)?;
+    let theirs = word_list(alloc, field(line, 1), 256)?;
     Ok(compare_taken(form, &octets, size_at(line, 2), &theirs))
 }
 

@@ -1,7 +1,7 @@
 // The functions of `tlx`, called with a part of a larger room, and what they answer as text. The lists of a long case are runs.
 use crate::runs::{Runs, octets_in_runs};
 use lines::answer::{Number, Numbers, Place, Reading, unasked, written};
-use lines::fields::{field, number_at, octets_in, size_at, words_in};
+use lines::fields::{field, number_at, octet_list, size_at, word_list};
 use lines::room::{Entry, Put, keeps, room};
 use std::alloc::{AllocError, Global};
 use tlx::{CaseAnswer, Header};
@@ -14,7 +14,7 @@ fn octets_of(alloc: Global, is_long: bool, text: &[u8]) -> Result<Vec<u8>, Alloc
     if is_long {
         octets_in_runs(alloc, text, MOST)
     } else {
-        octets_in(alloc, text, MOST)
+        octet_list(alloc, text, MOST)
     }
 }
 
@@ -95,7 +95,7 @@ pub(crate) fn answer_writing(
     line: &[u8],
 ) -> Result<String, AllocError> {
     let form = number_at(line, 0);
-    let lengths = words_in(alloc, field(line, 1), 320)?;
+    let lengths = word_list(alloc, field(line, 1), 320)?;
     let octets = octets_of(alloc, is_long, field(line, 2))?;
     let mut case = room(alloc, MOST)?;
     let answer = match case.as_mut_slice().get_mut(..size_at(line, 3)) {

@@ -1,6 +1,6 @@
 // Long lists, written as runs: how many times, and which entry. `FFFF 0041 0001 001B` is 65,535 times 41, and then 1B.
 use lines::answer::Word;
-use lines::fields::words_in;
+use lines::fields::word_list;
 use std::alloc::{AllocError, Global};
 use std::fmt;
 
@@ -10,7 +10,7 @@ pub(crate) fn octets_in_runs(
     text: &[u8],
     most: usize,
 ) -> Result<Vec<u8>, AllocError> {
-    let runs = words_in(alloc, text, 64)?;
+    let runs = word_list(alloc, text, 64)?;
     let mut octets = Vec::new(alloc);
     for run in runs.chunks_exact(2) {
         let end = octets.len().saturating_add(run[0] as usize);

@@ -30,7 +30,7 @@ returns-then-code-lt-NO_CHARACTER c =
 pub same_octets-requires : goal.same_octets-requires
 same_octets-requires c =
     let a = c.args in (
-      size_inside a.reader.now a.first.now a.i (within a.reader.now a.first.now a.i c.requires.0) c.size_at-size.ensures,
+      size_inside a.reader.now a.first.now a.i (within a.reader.now a.first.now a.i c.requires.0) c.in_ok-size.ensures,
       omega (arith, within a.reader.now a.second.now a.j c.requires.1),
     )
 
@@ -38,7 +38,7 @@ pub returns-then-same_octets : goal.returns-then-same_octets
 returns-then-same_octets c =
     let a = c.args in
     ap Some c.alike-then-same_octets.ensures
-    ∙ same_here a.reader.now (drop a.i a.first.now) (drop a.j a.second.now) c.size_at-size.ensures
+    ∙ same_here a.reader.now (drop a.i a.first.now) (drop a.j a.second.now) c.in_ok-size.ensures
     (c.same_octets.ensures.0 c.if-same_octets.true)
 
 pub returns-in_default : goal.returns-in_default
@@ -68,7 +68,7 @@ the_same c =
     let a = c.args in
     otherwise_at a.reader.now a.first.now a.second.now a.i a.j
     (sym (rw c.form.ensures at c.element_at.ensures.0) ∙ c.in-Element.is) (sym (rw c.form-2.ensures at c.element_at-2.ensures.0) ∙ c.in-Element-element_at.is)
-    c.size_at-size.ensures (search rules) (search rules)
+    c.in_ok-size.ensures (search rules) (search rules)
 
 pub overflow_sub-result : goal.overflow_sub-result
 overflow_sub-result c = (the_same (goal.at.overflow_sub-result c).Else-ne).0
