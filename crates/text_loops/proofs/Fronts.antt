@@ -18,7 +18,7 @@ use Rattle.run.specs.Put.{Put, what_fits}
 use Rattle.run.proofs.Outcomes.{accepts}
 use Rattle.run.proofs.Before.{front_accepted}
 use Rattle.run.proofs.Rooms.{numbered}
-use Rattle.run.proofs.Puts.{behind, behind_length, behind_put, all_fit, none_fits, nothing_fits}
+use Rattle.run.proofs.Puts.{put_as, put_length, put_over, put_taken, behind, behind_length, behind_put, all_fit, none_fits, nothing_fits}
 use Rattle.sorts.specs.declared.Form.{Form}
 use Rattle.element_words.specs.declared.Element.{Element}
 use Rattle.element_words.specs.Words.{words_of}
@@ -55,6 +55,12 @@ asked_all : (whole : Bool) (n : ℕ) (ws : List ℕ) (x : Outcome Element) → N
 asked_all whole n ws (accepted es) z q = refl
 asked_all true n ws (refusal r e p d) z q = absurd (omega (arith, eqb-true r 0 q))
 asked_all false n ws (refusal r e p d) z q = refl
+
+-- where no whole text is wanted, all
+asked_any : (whole : Bool) (ws : List ℕ) (x : Outcome Element) → whole ≡ false → asked_for whole x ws ≡ ws
+asked_any whole ws (accepted es) q = refl
+asked_any true ws (refusal r e p d) q = let z : ◌≡◌ {A = ℕ} 0 1 = cc in absurd (omega arith)
+asked_any false ws (refusal r e p d) q = refl
 
 -- else nothing
 asked_none : (whole : Bool) (n : ℕ) (ws : List ℕ) (x : Outcome Element)
@@ -110,7 +116,27 @@ module _ (f : Form) (text words : List ℕ) (o : ℕ) (whole : Bool) (m : Measur
       let fits = ap (what_fits words o) w.all ∙ all_fit words o (words_before f text) w.room in
       (is, p.holds ∙ ap (sets words o) (sym fits))
 
+  -- where each octet has room for a word, and no whole text is wanted, what is read straight into the buffer is all that is wanted
+  pub read_straight : whole ≡ false → o + length text ≤ length words
+      → (l' : List ℕ) → Put (behind words o) 0 (words_before f text) l' m.words
+      → ReadFrontPromise f text words o whole m (put_mid o (length words - o) words l')
+  read_straight any h l' p =
+      let few = before_few f text in
+      let room : o + length (words_before f text) ≤ length words = omega arith in
+      let over-behind = put_over p (omega (arith, behind_length words o)) in
+      promised (record { room = room; all = asked_any whole (words_before f text) (read_in f text) any })
+      (behind_put words o l' (words_before f text) room over-behind)
+
   module _ (q : is_wanted m (length words) o whole ≡ true) where
+    -- what was read into an array that has room for a word of each octet is copied from it
+    module _ (first read : List ℕ) (p : Put first 0 (words_before f text) read m.words) (h : length text ≤ length first) where
+      pub wanted_first : (m.words ≤ length read) × (o + m.words ≤ length words)
+      wanted_first = omega (arith, p.place, put_length p, before_few f text, (wanted q).room)
+
+      pub wanted_copied : {after : List ℕ} {next : ℕ} → Put words o (take m.words read) after next
+          → ReadFrontPromise f text words o whole m after
+      wanted_copied r = promised (wanted q) (put_as (put_taken p (omega (arith, before_few f text))) r)
+
     -- how far the text is read lies in it, and the place of the words in the buffer
     pub wanted_inside : (m.answer.place ≤ length text) × (o ≤ length words)
     wanted_inside =

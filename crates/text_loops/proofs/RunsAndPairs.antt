@@ -31,13 +31,15 @@ use Rattle.element_words.specs.declared.Element.{Element}
 use Rattle.element_words.specs.declared.Element.TheVariants.{One}
 use Rattle.element_words.specs.Words.{words_of}
 use Rattle.element_spelling.specs.ElementOctets.{is_canonical}
+use Rattle.canonical_tests.proofs.TestsRight.{alone_test}
 use Rattle.element_reading.specs.Grammar.{Spells}
-use Rattle.element_reading.specs.ElementHead.{head_sort, head_in, pair_head, follower_head}
+use Rattle.element_reading.specs.ElementHead.{head_sort, head_in, canonical_head, pair_head, follower_head}
 use Rattle.element_reading.proofs.Reader.{reads}
 use Rattle.text_loops.specs.RunsAndPairs.{spacing_words, pair_word}
 use Rattle.text_loops.specs.Fronts.{read_in}
-use Rattle.text_loops.specs.LawWords.{Tallied, CountedBoth}
+use Rattle.text_loops.specs.LawWords.{HereStands, Tallied, CountedBoth}
 use Rattle.text_loops.proofs.FewWords.{few_words}
+use Rattle.text_loops.proofs.Steps.{graphic_told}
 use Rattle.text_loops.proofs.Tallied.{stands_told, canonical_one, written_canonical, listed_canonical, tally_turn, tally_turns}
 
 -- ---- a run that is counted and written octet by octet
@@ -196,6 +198,20 @@ module _ (f : Form) (text : List ℕ) where
       → head_in f (drop at text) ≡ element (One x) 2
   pair_of at x e n = pair_head_lem f (drop at text) x e n
 
+  -- a spacing character that the table has, and a pair that is not of ASCII, with what is told of them
+  pub spacing_stands : (at c : ℕ) → at < length text → c ≡ code_in (code_table f) (get_or text at 0) → c < no_character
+      → HereStands (canonical_head f (drop at text)) at (One c, true) (at + 1)
+  spacing_stands at c h e l =
+      let o = get_or text at 0 in
+      let is = graphic_code f o (omega (arith, e)) in
+      let canonical = sym (alone_test f o (code_in (code_table f) o) is.sorts ∙ written_canonical f o (code_in (code_table f) o) is) in
+      rw e (graphic_told f text at (code_in (code_table f) o) true h (sym is.sorts) canonical)
+
+  pub pair_stands : (at x : ℕ) → x ≡ pair_word (code_table f) square_table (drop at text) → 0x80 ≤ x
+      → HereStands (canonical_head f (drop at text)) at (One x, true) (at + 2)
+  pair_stands at x e z =
+      stands_told f (drop at text) at (pair_of at x e (λ q. omega arith)) (pair_told f (drop at text) x e z)
+
   -- measuring
   pub behind_run : {at n count respelled k : ℕ} → CountedBoth f text at n count respelled → k ≡ length (run at)
       → CountedBoth f text (at + k) (n + k) (count + k) respelled
@@ -215,8 +231,7 @@ module _ (f : Form) (text : List ℕ) where
       record {
         counted = count_turn (reads f) (few_words f) text was.counted here refl refl;
         tallied =
-            subst (Tallied f text (at + 2) (n + 1)) (add-zero respelled)
-            (tally_turn f text was.tallied (stands_told f (drop at text) at here (pair_told f (drop at text) x e z)) refl);
+            subst (Tallied f text (at + 2) (n + 1)) (add-zero respelled) (tally_turn f text was.tallied (pair_stands at x e z) refl);
       }
 
   -- filling

@@ -16,8 +16,8 @@ use Rattle.run.specs.Answers.{answer, count_of, RoomFor}
 use Rattle.run.proofs.FromPlace.{at_place}
 use Rattle.run.specs.Put.{Put, what_fits}
 use Rattle.run.proofs.Puts.{put_length, put_fits}
-use Rattle.run.proofs.Loops.{count_onward, count_stop, count_end, count_turn, fill_small, fill_onward, fill_room, fill_turn, fill_never}
-use Rattle.run.proofs.Before.{counted_end, counted_stop}
+use Rattle.run.proofs.Loops.{count_onward, count_stop, count_end, count_turn, take_turn, fill_small, fill_onward, fill_room, fill_turn, fill_never}
+use Rattle.run.proofs.Before.{counted_end, counted_stop, taken_end, taken_stop}
 use Rattle.sorts.specs.declared.Form.{Form}
 use Rattle.sorts.specs.declared.Sort.{Sort}
 use Rattle.sorts.specs.declared.Sort.TheVariants.{Graphic}
@@ -34,8 +34,8 @@ use Rattle.element_reading.specs.ElementHead.{head_in, canonical_head, head_sort
 use Rattle.element_reading.proofs.Reader.{reads, refuses_exactly_by}
 use Rattle.element_reading.proofs.Places.{reading_number}
 use Rattle.text_loops.specs.declared.Measured.{Measured}
-use Rattle.text_loops.specs.Fronts.{read_in, measured, step_answer_after}
-use Rattle.text_loops.specs.LawWords.{HereStands, RefusedStep, CountedBoth}
+use Rattle.text_loops.specs.Fronts.{read_in, measured, step_answer_after, ReadInto}
+use Rattle.text_loops.specs.LawWords.{HereStands, RefusedStep, CountedBoth, TakenBoth}
 use Rattle.text_loops.proofs.FewWords.{few_words, counted_fits}
 use Rattle.text_loops.proofs.Tallied.{told_here, told_stands, stands_told, tally_small, tally_turn, tally_stop, tally_end}
 
@@ -130,6 +130,50 @@ module _ (f : Form) (text : List ℕ) where
         },
       )
 
+  -- reading in one pass: the numbers, and what stands in the buffer
+  module _ (into : List ℕ) where
+    pub record Taking (at n o k : ℕ) (l : List ℕ) : Type 0 where
+      pub both : TakenBoth f text into at n o k l
+      pub inside : at ≤ length text
+      pub elements : n ≤ at
+      pub words : o ≤ at
+      pub respelled : k ≤ n
+      pub size : length l ≡ length into
+
+    pub taking : {at n o k : ℕ} {l : List ℕ} → TakenBoth f text into at n o k l → Taking at n o k l
+    taking was =
+        let fits = counted_fits f text was.taken.counted in
+        record {
+          both = was;
+          inside = fits.2;
+          elements = fits.0;
+          words = fits.1;
+          respelled = (tally_small f text was.tallied).0;
+          size = put_length was.taken.put;
+        }
+
+    module _ {at n o k : ℕ} {l : List ℕ} (was : TakenBoth f text into at n o k l) {e : Element} {b : Bool} {next : ℕ}
+        (h : HereStands (canonical_head f (drop at text)) at (e, b) next) where
+      stands : head_in f (drop at text) ≡ element e h.size
+      stands = told_stands f (drop at text) h.here
+
+      -- what has room for a word of each octet has room for the element's words;
+      pub take_room : length text ≤ length into → o + length (words_of e) ≤ length l
+      take_room room =
+          let behind = count_turn (reads f) (few_words f) text was.taken.counted stands h.onward refl in
+          omega (arith, counted_fits f text behind, put_length was.taken.put)
+
+      -- behind them
+      pub taken_element : {r o' : ℕ} {l' : List ℕ} → r ≡ pick b 0 1 → Put l o (words_of e) l' o'
+          → (at < next) × TakenBoth f text into next (n + 1) o' (k + r) l'
+      taken_element q put = (
+        omega (arith, count_onward (reads f) (few_words f) text was.taken.counted stands, h.onward),
+        record {
+          taken = take_turn (reads f) (few_words f) text into was.taken stands h.onward put;
+          tallied = tally_turn f text was.tallied h q;
+        },
+      )
+
   -- filling: what stands in the buffer, and so the place in it
   module _ (l₀ : List ℕ) where
     pub record Filling (at o : ℕ) (l : List ℕ) : Type 0 where
@@ -181,6 +225,20 @@ module _ (f : Form) (text : List ℕ) where
   read_end was h =
       measured_as_lem (count_end (reads f) (few_words f) text was.counted h) (counted_end (reads f) (few_words f) text was.counted h)
       (tally_end f text was.tallied h)
+
+  -- the same of a loop that puts each element's words as it goes
+  module _ {into l : List ℕ} {at n o k : ℕ} (was : TakenBoth f text into at n o k l) where
+    counted : CountedBoth f text at n o k
+    counted = record { counted = was.taken.counted; tallied = was.tallied }
+
+    pub into_stop : {a : Answer} (x : Step) → x ≡ step_at f text at → NotRead x → at < length text
+        → a ≡ step_answer_after n x → ReadInto f text into (measured_as a o k) l
+    into_stop x q i h e =
+        let r = step_refused f text at x q i h in
+        record { measures = read_stop x counted q i h e; puts = taken_stop (reads f) (few_words f) text was.taken r.here }
+
+    pub into_end : length text ≤ at → ReadInto f text into (measured_as (answer 0 n at o) o k) l
+    into_end h = record { measures = read_end counted h; puts = taken_end (reads f) (few_words f) text was.taken h }
 
   -- an accepted text has an element at each place before its end
   pub read_never : (words : List ℕ) (room : RoomFor words_of (length words) (read_in f text)) {at o : ℕ} {l : List ℕ} (x : Step)

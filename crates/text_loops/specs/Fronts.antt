@@ -2,13 +2,14 @@
 -- proofs/ReadTexts, accepted_exactly and refused_exactly; `elements_before`: run, proofs/Before, before_accepted and before_refused;
 -- `respelled_before`: text_reading, proofs/Respelled, respelled_exactly). Below, where it is said, parts of the code.
 -- Assumes nothing.
-use Rattle.std.specs.Prelude.{ℕ, ◌+◌, Bool, true, false, List, [], eqb, leb, length}
+use Rattle.std.specs.Prelude.{ℕ, ◌+◌, ◌≡◌, Bool, true, false, List, [], eqb, leb, length}
 use Rattle.run.specs.Choice.{pick}
 use Rattle.run.specs.Head.{Outcome, accepted, refusal, outcome}
 use Rattle.run.specs.Before.{whats, before}
 use Rattle.run.specs.Tally.{tally_of}
 use Rattle.run.specs.declared.Answer.{Answer}
 use Rattle.run.specs.Answers.{answer, given, roomy_answer}
+use Rattle.run.specs.Put.{Put}
 use Rattle.sorts.specs.declared.Form.{Form}
 use Rattle.element_words.specs.declared.Element.{Element}
 use Rattle.element_words.specs.Words.{words_of}
@@ -49,6 +50,15 @@ asked_for whole (accepted es) ws = ws
 asked_for whole (refusal r n p d) ws = pick whole [] ws
 
 -- ---- parts of the code
+
+-- a text of fewer octets is read in one pass
+abbrev pub short : ℕ
+short = 12
+
+-- what reading a text into a buffer with room enough leaves: how far it came, and the words up to there over the buffer's first entries
+pub record ReadInto (f : Form) (text into : List ℕ) (m : Measured) (after : List ℕ) : Type 0 where
+  pub measures : m ≡ measured f text
+  pub puts : Put into 0 (words_before f text) after m.words
 
 -- what was measured is asked for, and a buffer of `room` entries holds its words from the place o on
 abbrev pub is_wanted : Measured → ℕ → ℕ → Bool → Bool

@@ -8,9 +8,11 @@ use Rattle.run.specs.Tally.{noted}
 use Rattle.run.specs.declared.Answer.{Answer}
 use Rattle.run.specs.Answers.{answer, count_of}
 use Rattle.sorts.specs.declared.Form.{Form}
+use Rattle.element_words.specs.declared.Element.TheVariants.{One}
 use Rattle.element_words.specs.Words.{words_of}
 use Rattle.element_reading.specs.declared.Step.{Step}
 use Rattle.element_reading.specs.ElementHead.{head_in, canonical_head}
+use Rattle.text_loops.specs.declared.Character.{Character}
 use Rattle.text_loops.specs.Fronts.{step_answer_after}
 
 -- the element e stands at the head, and the place next is the one after it
@@ -18,6 +20,10 @@ pub record HereStands {A : Type 0} (h : Head A) (at : ℕ) (e : A) (next : ℕ) 
   pub size : ℕ
   pub here : h ≡ element e size
   pub onward : next ≡ at + size
+
+-- a character stands at the place, in so many octets, told whether they are its canonical spelling
+abbrev pub CharacterStands : Form → List ℕ → ℕ → Character → Type 0
+CharacterStands f text at x = HereStands (canonical_head f (drop at text)) at (One x.code, x.canonical) (at + x.size)
 
 -- up to the place `at` stand n elements, of which k are not canonical: counted as a loop counts words, by the head that tells it
 abbrev pub Tallied : Form → List ℕ → ℕ → ℕ → ℕ → Type 0

@@ -1,20 +1,21 @@
 // A text up to its end or its first fault: the loops that go through it.
 #![tactic(auto)]
 
-ghost use Rattle.std.specs.Prelude.{◌≡◌, ◌+◌, ◌≤◌, ◌<◌, length, take, drop};
+ghost use Rattle.std.specs.Prelude.{◌≡◌, ◌+◌, ◌≤◌, ◌<◌, length, drop, IfSome};
 ghost use Rattle.run.specs.Answers.{written_of, RoomFor};
 ghost use Rattle.run.specs.Put.{Put};
 ghost use Rattle.squares.specs.Squares.{square_table};
 ghost use Rattle.lent_tables.specs.CodeTables.{code_table};
 ghost use Rattle.element_words.specs.Words.{words_of};
 ghost use Rattle.text_loops.specs.RunsAndPairs.{spacing_words, pair_word};
-ghost use Rattle.text_loops.specs.Fronts.{read_in, measured, is_wanted};
+ghost use Rattle.text_loops.specs.Fronts.{read_in, measured, is_wanted, ReadInto, short};
+ghost use Rattle.text_loops.specs.LawWords.{CharacterStands};
 ghost use Rattle.text_loops.specs.Promises.{StepAnswerPromise, MeasureFrontPromise, ReadFrontPromise};
 
 use element_reading::Step;
 use lent_tables::Reader;
 use run::Answer;
-use sorts::Form;
+use sorts::{Form, Sort};
 
 // What was read of a text, up to its end or its first fault.
 #[derive(Clone, Copy)]
@@ -26,6 +27,9 @@ pub struct Measured {
     // how many of these elements did not stand in their canonical spelling
     pub respelled: usize,
 }
+
+// A text of fewer octets is read in one pass: a second one would cost more than the array that it is read into.
+const SHORT: usize = 12;
 
 // From here on no form has an octet for the character of a pair: the pair is its canonical spelling. Below stands what no pair spells, and
 // the characters of ASCII, which are read as elements.
@@ -207,11 +211,103 @@ fn fill_by_tables(reader: &Reader, text: &[u8], words: &mut [u32])
     }
 }
 
+// A character that is an element, how many octets it has, and whether they are its canonical spelling.
+#[derive(Clone, Copy)]
+struct Character {
+    code: u32,
+    size: usize,
+    canonical: bool,
+}
+
+// The character at a place, where it is known without the element's answer: by the reader's tables a spacing character or a pair that stands
+// in its canonical spelling, and by its sort any other spacing character.
+fn character_at(reader: &Reader, text: &[u8], at: usize) -> Option<Character>
+    requires { at < length text.now }
+    ensures { IfSome result (CharacterStands reader.now text.now at) }
+{
+    let octet = text[at];
+    let code = reader.code(octet);
+    if code < lent_tables::NO_CHARACTER {
+        return Some(Character {
+            code,
+            size: 1,
+            canonical: true,
+        });
+    }
+    if code < lent_tables::NEITHER {
+        let pair = pair_at(reader, text, at);
+        if PAIRS_FROM <= pair {
+            return Some(Character {
+                code: pair,
+                size: 2,
+                canonical: true,
+            });
+        }
+        return None;
+    }
+    let Sort::Graphic(spacing) = sorts::sort_in(reader.form(), octet) else {
+        return None;
+    };
+    Some(Character {
+        code: spacing,
+        size: 1,
+        canonical: canonical_tests::word_is_canonical(reader.form(), spacing, octet, 1),
+    })
+}
+
+// Reads a text in one pass, into a buffer that has an entry for each octet: how far it comes, and the words up to there.
+fn read_once(reader: &Reader, text: &[u8], into: &mut [u32]) -> Measured
+    requires { length text.now ≤ length into.old }
+    ensures { ReadInto reader.now text.now into.old result into.new }
+{
+    let mut at = 0;
+    let mut elements = 0;
+    let mut o = 0;
+    let mut respelled = 0;
+    while at < text.len() {
+        if let Some(x) = character_at(reader, text, at) {
+            into[o] = x.code;
+            at += x.size;
+            elements += 1;
+            o += 1;
+            respelled += canonical_tests::not_canonical(x.canonical);
+        } else {
+            let step = element_reading::element_at(reader.form(), text, at);
+            let Step::Element(e, next, canonical) = step else {
+                return Measured {
+                    answer: step_answer(step, elements),
+                    words: o,
+                    respelled,
+                };
+            };
+            o = element_words::put_words(e, into, o);
+            at = next;
+            elements += 1;
+            respelled += canonical_tests::not_canonical(canonical);
+        }
+    }
+    Measured {
+        answer: Answer {
+            number: 0,
+            element: elements,
+            place: at,
+            count: o,
+        },
+        words: o,
+        respelled,
+    }
+}
+
 // How far a text is read, as with room enough, and how many words its elements up to there have.
 pub fn measure_front(form: Form, text: &[u8]) -> Measured
     ensures { MeasureFrontPromise form text.now result }
 {
-    measure_by_tables(&Reader::of_form(form), text)
+    let reader = Reader::of_form(form);
+    if text.len() < SHORT {
+        let mut first = [0; SHORT];
+        return read_once(&reader, text, &mut first);
+    }
+    measure_by_tables(&reader, text)
 }
 
 // Whether what was measured is asked for, and a buffer of `room` entries holds its words from `o` on.
@@ -221,15 +317,52 @@ fn is_wanted(m: Measured, room: usize, o: usize, whole: bool) -> bool
     o <= room && m.words <= room - o && (!whole || m.answer.number == 0)
 }
 
+// Copies words, from `o` on.
+fn put_first(first: &[u32], words: &mut [u32], o: usize)
+    requires { o + length first.now ≤ length words.old }
+    ensures { Put words.old o first.now words.new (o + length first.now) }
+{
+    for i in 0..first.len() {
+        words[o + i] = first[i];
+    }
+}
+
+// Reads a short text: straight into the buffer, where that has room for a word of each octet and no whole text is wanted; else through an
+// array of its own.
+fn read_short(reader: &Reader, text: &[u8], words: &mut [u32], o: usize, whole: bool) -> Measured
+    requires { length text.now ≤ short }
+    ensures { ReadFrontPromise reader.now text.now words.old o whole result words.new }
+{
+    if !whole && o <= words.len() && text.len() <= words.len() - o {
+        return read_once(reader, text, &mut words[o..]);
+    }
+    let mut first = [0; SHORT];
+    let m = read_once(reader, text, &mut first);
+    if is_wanted(m, words.len(), o, whole) {
+        put_first(&first[..m.words], words, o);
+    }
+    m
+}
+
+// Reads a text in two passes by the tables of its form.
+fn read_long(reader: &Reader, text: &[u8], words: &mut [u32], o: usize, whole: bool) -> Measured
+    ensures { ReadFrontPromise reader.now text.now words.old o whole result words.new }
+{
+    let m = measure_by_tables(reader, text);
+    if is_wanted(m, words.len(), o, whole) {
+        fill_by_tables(reader, &text[..m.answer.place], &mut words[o..]);
+    }
+    m
+}
+
 // Reads a text up to its end or its first fault: how far it came, and the words up to there, from `o` on, where all of them fit. Where only
 // a whole text is wanted, a refusal writes nothing.
 pub fn read_front(form: Form, text: &[u8], words: &mut [u32], o: usize, whole: bool) -> Measured
     ensures { ReadFrontPromise form text.now words.old o whole result words.new }
 {
     let reader = Reader::of_form(form);
-    let m = measure_by_tables(&reader, text);
-    if is_wanted(m, words.len(), o, whole) {
-        fill_by_tables(&reader, &text[..m.answer.place], &mut words[o..]);
+    if text.len() < SHORT {
+        return read_short(&reader, text, words, o, whole);
     }
-    m
+    read_long(&reader, text, words, o, whole)
 }
