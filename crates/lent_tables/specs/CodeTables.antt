@@ -1,5 +1,5 @@
--- Parts of the code: the tables that a reader of whole texts is lent, made once a call, and what is found in one, by the table's entries
--- alone.
+-- Parts of the code: the tables that a reader of whole texts looks into, which are always there, and what is found in one, by the
+-- table's entries alone.
 -- Assumes nothing.
 use Rattle.std.specs.Prelude.{ℕ, ◌+◌, ◌-◌, ◌≡◌, Bool, true, List, map, eqb, ltb, get_or, Some, Option, None}
 use Rattle.run.specs.Choice.{pick}

@@ -1,5 +1,5 @@
--- Parts of the code: a spelling as one number, and the table of them that a writer of whole texts is lent, made once a call. That what is
--- found in it is `spell_in` stands in proofs/LentSpellings. No promise of writing cites them.
+-- Parts of the code: a spelling as one number, and the table of them that a writer of whole texts looks into, which is always there. That what
+-- is found in it is `spell_in` stands in proofs/LentSpellings. No promise of writing cites them.
 -- Assumes nothing.
 use Rattle.std.specs.Prelude.{ℕ, suc, ◌+◌, ◌*◌, ◌-◌, ◌/◌, ◌%◌, Bool, true, false, List, [], ◌∷◌, ◌++◌, map, ltb, length, get_or}
 use Rattle.run.specs.Choice.{pick, within}

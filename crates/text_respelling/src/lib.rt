@@ -1,4 +1,4 @@
-// A text respelt in a form: by runs of what lent tables read and spell, and between them element by element.
+// A text respelt in a form: by runs of what the forms' tables read and spell, and between them element by element.
 #![tactic(auto)]
 
 ghost use Rattle.std.specs.Prelude.{◌≡◌, ◌*◌, ◌≤◌, ◌<◌, length, drop};

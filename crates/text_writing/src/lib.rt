@@ -1,4 +1,4 @@
-// Words written as a text: by runs of what the form's lent table spells, and between them element by element.
+// Words written as a text: by runs of what the form's table spells, and between them element by element.
 #![tactic(auto)]
 
 ghost use Rattle.std.specs.Prelude.{◌≡◌, ◌*◌, ◌≤◌, length};
@@ -14,7 +14,7 @@ use run::Answer;
 use sorts::Form;
 use spelling_tables::Speller;
 
-// How far a run goes that lent tables spell: the entries that it passes, words or octets, and the octets that they are spelt with.
+// How far a run goes that tables spell: the entries that it passes, words or octets, and the octets that they are spelt with.
 #[derive(Clone, Copy)]
 pub struct Gone {
     pub entries: usize,
