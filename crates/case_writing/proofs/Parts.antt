@@ -1,19 +1,18 @@
 -- The laws of what a case is written from: the lengths and the octets, entry after entry.
 -- Assumes nothing.
-use Prim.Native.Nat.{ℕ, ◌+◌, ◌-◌, ◌*◌, ◌≤◌, ◌<◌}
-use mathlib.Core.Path.{◌≡◌, refl, sym, ap, ap₂, ◌∙◌}
+use Prim.Native.Nat.{ℕ, ◌+◌, ◌*◌, ◌≤◌, ◌<◌}
+use mathlib.Core.Path.{◌≡◌, refl, sym, ap, ◌∙◌}
 use mathlib.Core.Bool.{Bool, true, false, ◌&&◌}
 use mathlib.Core.List.Memᴰ
-use mathlib.Core.List.{List, [], ◌∷◌, ◌++◌, append_assoc, Memᴰ}
+use mathlib.Core.List.{List, [], ◌∷◌, ◌++◌, Memᴰ}
 use native.Mathlib.Omega.{arith}
 use lib.Dec.{eqb, leb}
 use Rattle.std.proofs.Common.{sum, nat_le}
 use Rattle.std.specs.List.{list_all}
 use Rattle.std.proofs.lemmas.List.Sums.{sum_by-cons}
 use Rattle.std.proofs.lemmas.List.{take_more}
-use lib.ListN.{length, take, drop, get_or}
-use lib.Seq.{length-take-le, drop-drop, sets-eq}
-use borrow.Rule.Slice.PartMut.{put_mid}
+use lib.ListN.{length, take, get_or}
+use lib.Seq.{length-take-le}
 use borrow.Author.Tests.{leb-true, eqb-true, le-leb, lt-leb}
 use Rattle.run.specs.Choice.{pick}
 use Rattle.run.specs.Answers.{given}
@@ -94,20 +93,6 @@ pub fits_small : (lengths : List ℕ) (size : ℕ) → Fits lengths size → siz
 fits_small lengths size f = omega (arith, f.few, f.sum, total_most lengths (none_over_lem 0xFFFF lengths f.short))
 
 -- ---- entries written, one after another
-
--- entries that were copied over a part of the buffer are put there
-pub copied : {out entries part : List ℕ} {at : ℕ} → at + length entries ≤ length out → part ≡ entries
-    → Put out at entries (put_mid at (at + length entries - at) out part) (at + length entries)
-copied {out} {entries} {part} {at} h e =
-    let n : at + length entries - at ≡ length entries = omega arith in
-    record {
-      place = refl;
-      holds =
-          ap₂ (λ (k : ℕ) (l : List ℕ). put_mid at k out l) n e
-          ∙ ap (λ (l : List ℕ). take at out ++ (entries ++ l)) (drop-drop (length entries) at out)
-          ∙ sym (append_assoc (take at out) entries (drop (at + length entries) out))
-          ∙ sym (sets-eq entries out at h);
-    }
 
 -- one entry of the table more
 pub table_more : (ns : List ℕ) (i : ℕ) → i < length ns → given big16 (take i ns) ++ big16 (get_or ns i 0) ≡ given big16 (take (i + 1) ns)

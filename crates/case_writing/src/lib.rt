@@ -53,9 +53,10 @@ fn put_all(octets: &[u8], out: &mut [u8], at: usize) -> usize
     requires { at + length octets.now ≤ length out.old }
     ensures { Put out.old at octets.now out.new result }
 {
-    let end = at + octets.len();
-    out[at..end].copy_from_slice(octets);
-    end
+    for i in 0..octets.len() {
+        out[at + i] = octets[i];
+    }
+    at + octets.len()
 }
 
 // The mark, the version, the form and how many pages.

@@ -1,6 +1,6 @@
--- `put_all` meets its contract: what is copied over a part of the octets is put there (`copied`).
-use Rattle.case_writing.proofs.Parts.{copied}
+-- `put_all` meets its contract: each turn puts the next octet (`put_next`).
+use Rattle.run.proofs.Puts.{put_next}
 use Rattle.case_writing.proofs.put_all.Goals as goal
 
-pub returns : goal.returns
-returns c = copied c.requires c.copy_from_slice.ensures.after
+pub loop-i-preserved : goal.loop-i-preserved
+loop-i-preserved c = put_next _ _ c.loop-i-test.true c.loop-i.invariant
