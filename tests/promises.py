@@ -4,9 +4,9 @@
 Of each `pub fn` of the crates from `run` to `oakentwirl`, by its signature alone: it has no `requires`; its one `ensures` is its promise's
 name, with every argument at entry, the result, and every lent buffer at exit (the promise of a method of a struct that holds
 what is lent is named after both, and is of the struct's fields); the crate proves `Once` or `OnceBoth` of that name. Where the
-result is a part of what is lent, its promise is of what it holds and of where it lies; of a table that is always there, of what it holds. A
-conversion promises what its `impl TryFrom` gives. A function for C promises what the function that it calls promises. What the names say is
-proved by the check, not here.
+result is a part of what is lent, its promise is of what it holds and of where it lies; of a table that is always there, of what it holds. An
+`impl TryFrom` or `From` gives the promise that is named after the type that it makes (`FormOfPromise`), and so by its name alone. A function
+for C promises what the function that it calls promises. What the names say is proved by the check, not here.
 """
 
 import re
@@ -20,7 +20,7 @@ START = re.compile(r"^( *)pub (?:extern \"C\" )?fn (\w+)(?:<'\w+>)?\(")
 LENT = re.compile(r"&(?:'\w+ )?")
 STATIC = re.compile(r"&'static\b")
 IMPL = re.compile(r"^impl(?:<[^>]*>)? (\w+)(?:<[^>]*>)? \{$")
-GIVES = re.compile(r"^    ghost try_from_gives = \{ (\w+) \};$", re.M)
+CONVERSION = re.compile(r"^( *)impl\b[^{]*?\b((?:Try)?From)<[^{]*>\s+for\s+(?:\w+::)*(\w+)[^{]*\{(.*?)^\1\}$", re.M | re.S)
 LENT_TO_WRITE = re.compile(LENT.pattern + r"mut\b")
 # a call, of a function by its path or of a method
 CALL = re.compile(r"\s*(?:[\w:]+::|\w+\.)(\w+)\([^()]*\)\s*")
@@ -66,6 +66,15 @@ def functions(text):
         yield name, given, result.removeprefix(" -> "), " ".join(" ".join(clauses).split()), " ".join(body)
 
 
+def conversions(text):
+    """Name of each `impl TryFrom` and `From`, its promise, what it gives, and what it has to give."""
+    for _, trait, made, body in CONVERSION.findall(text):
+        member = "try_from_gives" if trait == "TryFrom" else "from_gives"
+        promise = f"{made}OfPromise"
+        given = re.search(rf"^ *(ghost {member} = .*?;)$", body, re.M | re.S)
+        yield f"{trait} for {made}", promise, given.group(1) if given else f"no {member}", f"ghost {member} = {{ {promise} }};"
+
+
 def codec_crates():
     for line in (ROOT / "crates.txt").read_text().splitlines():
         name = line.split(":")[0].split()[0]
@@ -109,8 +118,13 @@ def allows_one(promise, proofs):
 def faults(crate):
     proofs = "".join(p.read_text() for p in sorted((ROOT / "crates" / crate / "proofs").glob("*.antt")))
     for source in sorted((ROOT / "crates" / crate / "src").glob("*.rt")):
-        for promise in GIVES.findall(source.read_text()):
-            yield None if allows_one(promise, proofs) else f"{crate}: nothing says that {promise} allows one answer"
+        for conversion, promise, given, gives in conversions(source.read_text()):
+            if given != gives:
+                yield f"{crate}: {conversion}: {given}\n    and not {gives}"
+            elif not allows_one(promise, proofs):
+                yield f"{crate}: {conversion}: nothing says that {promise} allows one answer"
+            else:
+                yield None
         for function, signature, result, clauses, body in functions(source.read_text()):
             called = CALL.fullmatch(body) if crate == LAST else None
             promise = promise_of(called.group(1) if called else function)
