@@ -1,7 +1,7 @@
--- To be believed: document 01's number of each answer of a header's check, with the form and the page count that it says, and when each is
--- given. Nothing here speaks of a reader.
+-- To be believed: document 01's number of each answer of a header's check, its words for a refusal, the form and the page count that an
+-- answer says, and when each is given. Nothing here speaks of a reader.
 -- Assumes nothing.
-use Rattle.std.specs.Prelude.{ℕ, ◌≡◌, List, length, Result, Ok, Err}
+use Rattle.std.specs.Prelude.{ℕ, ◌≡◌, List, length, Result, Ok, Err, codes}
 use Rattle.run.specs.declared.Answer.{Answer}
 use Rattle.run.specs.Answers.{bare}
 use Rattle.case_table.specs.declared.Header.{Header}
@@ -16,6 +16,13 @@ fault_number NoCase = 13
 fault_number OtherVersion = 14
 fault_number NoForm = 11
 fault_number WrongSize = 15
+
+-- 01's words for it
+abbrev pub fault_text : HeaderFault → List ℕ
+fault_text NoCase = codes "case under 8 octets, or wrong mark"
+fault_text OtherVersion = codes "case version not 1"
+fault_text NoForm = codes "form not 1 to 3"
+fault_text WrongSize = codes "over 256 pages, or size wrong"
 
 -- 01's number of each answer, which carries no place, element or count
 abbrev pub header_answer : Result Header HeaderFault → Answer

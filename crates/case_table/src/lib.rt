@@ -49,6 +49,11 @@ impl HeaderFault {
 
 // What it is, in 01's words.
 impl fmt::Display for HeaderFault {
+    ghost use Rattle.std.specs.Prelude.{Some};
+    ghost use Rattle.case_table.specs.HeaderNumbers.{fault_text};
+
+    ghost output = { λ fault. Some (fault_text fault) };
+
     fn fmt<W: fmt::Write>(&self, f: &mut fmt::Formatter<W>) -> fmt::Result {
         match self {
             HeaderFault::NoCase => write!(f, "case under 8 octets, or wrong mark"),

@@ -6,7 +6,7 @@ use mathlib.Core.List.{List}
 use native.Mathlib.Omega.{arith}
 use lib.ListN.{get_or}
 use Rattle.sorts.specs.declared.Form.{Form}
-use Rattle.std.specs.Prelude.{Option, Some}
+use Rattle.std.specs.Prelude.{Some}
 use Rattle.sorts.specs.Forms.{form_of}
 use Rattle.case_table.specs.Layout.{version_1, mark, number16}
 use Rattle.case_table.specs.Promises.{HeaderInPromise}
