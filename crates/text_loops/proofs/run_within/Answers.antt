@@ -14,7 +14,7 @@ returns-then-code-ge-NO_CHARACTER-clause-counted c =
 pub loop-i-preserved : goal.loop-i-preserved
 loop-i-preserved c =
     let a = c.args in
-    let more = run_more (code_table a.reader.now) a.octets.now _ c.loop-i-test.true c.loop-i.invariant (omega (arith, c.code.ensures, c.if-code-ge-NO_CHARACTER.false)) in
+    let more = run_more (code_table a.reader.now) a.octets.now _ c.loop-i-test.true c.loop-i.invariant (omega (arith, c.code.ensures)) in
     omega (arith, more.0)
 
 pub returns-clause-counted : goal.returns-clause-counted
