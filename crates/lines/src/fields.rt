@@ -136,11 +136,14 @@ pub fn octets_in(text: &[u8], out: &mut [u8]) -> usize
 pub fn words_in(text: &[u8], out: &mut [u32]) -> usize
     ensures { IsPrefixLen result out.new }
 {
-    let n = out.len().min(split(text, b' ').count());
-    for (place, word) in out.iter_mut().zip(split(text, b' ')) {
-        *place = number_in(word);
+    let mut words = split(text, b' ');
+    for n in 0..out.len() {
+        let Some(word) = words.next() else {
+            return n;
+        };
+        out[n] = number_in(word);
     }
-    n
+    out.len()
 }
 
 // The octets that are written so, at most so many.

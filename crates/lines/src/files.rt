@@ -24,17 +24,40 @@ pub fn read_full<R: Read>(reader: &mut R, out: &mut [u8]) -> io::Result<usize>
     Ok(done)
 }
 
-// What the file has: nothing where it cannot be opened, which is then said to standard error.
+// Puts what the file of that path has; one that cannot be opened is said to standard error.
+fn load_from<R: Files + Eprint>(rt: &R, path: &str, out: &mut [u8]) -> io::Result<usize>
+    ensures { ReadsAtMost result out.new }
+{
+    match fs::open(rt, path) {
+        Ok(mut file) => read_full(&mut file, out),
+        Err(error) => {
+            eprintln!(rt; "{path}: {error}")?;
+            Ok(0)
+        }
+    }
+}
+
+// Puts what the file has, and answers how much that is: nothing where it cannot be opened, which is then said to standard error. No path
+// that is not text can be.
+pub fn load<R: Files + Eprint>(rt: &R, name: &[u8], out: &mut [u8]) -> io::Result<usize>
+    ensures { ReadsAtMost result out.new }
+{
+    match str::from_utf8(name) {
+        Ok(path) => load_from(rt, path, out),
+        Err(error) => {
+            eprintln!(rt; "a file's name: {error}")?;
+            Ok(0)
+        }
+    }
+}
+
+// What the file has, by `load`.
 pub fn read_file<R: Files + Eprint + AllocGlobal>(rt: &R, name: &str) -> io::Result<Vec<u8>>
     ensures { IfOk result (λ v. vec_len v ≤ 400000) }
 {
     let mut text = Vec::new(rt.alloc());
-    match fs::open(rt, name) {
-        Ok(file) => {
-            file.take(LONGEST as u64).read_to_end(&mut text)?;
-        }
-        Err(error) => eprintln!(rt; "{name}: {error}")?,
-    }
-    text.truncate(LONGEST);
+    text.resize(LONGEST, 0)?;
+    let n = load(rt, name.as_bytes(), &mut text)?;
+    text.truncate(n);
     Ok(text)
 }

@@ -4,6 +4,7 @@ ghost use Rattle.std.specs.Prelude.{◌≡◌, ◌≤◌, ◌+◌, ◌%◌, ℕ,
 use crate::answer::{Octets, Words};
 use std::alloc::{AllocError, Global};
 use std::fmt;
+use std::fmt::Display;
 
 // What a room has: octets or words.
 pub trait Entry: Copy + PartialEq {
@@ -27,7 +28,7 @@ impl Entry for u8 {
     }
 
     fn list<W: fmt::Write>(entries: &[u8], f: &mut fmt::Formatter<W>) -> fmt::Result {
-        write!(f, "{}", Octets(entries))
+        Octets(entries).fmt(f)
     }
 }
 
@@ -40,17 +41,27 @@ impl Entry for u32 {
     }
 
     fn list<W: fmt::Write>(entries: &[u32], f: &mut fmt::Formatter<W>) -> fmt::Result {
-        write!(f, "{}", Words(entries))
+        Words(entries).fmt(f)
+    }
+}
+
+// Puts at each place what stands there before a call.
+pub fn fill<E: Entry>(room: &mut [E])
+    ensures length { length room.new ≡ length room.old }
+    ensures stands { (k : ℕ) → IfSome (slice_get room.new k) (λ e. e ≡ E.stands k) }
+{
+    for place in 0..room.len() {
+        room[place] = E::before(place);
     }
 }
 
 pub fn room<E: Entry>(alloc: Global, size: usize) -> Result<Vec<E>, AllocError>
-    ensures { IfOk result (λ v. vec_len v ≡ size) }
+    ensures size { IfOk result (λ v. vec_len v ≡ size) }
+    ensures stands { IfOk result (λ v. (k : ℕ) → IfSome (slice_get v.items k) (λ e. e ≡ E.stands k)) }
 {
-    let mut room = Vec::with_capacity(alloc, size)?;
-    for place in 0..size {
-        room.push(E::before(place))?;
-    }
+    let mut room = Vec::new(alloc);
+    room.resize(size, E::before(0))?;
+    fill(&mut room);
     Ok(room)
 }
 
@@ -59,10 +70,12 @@ pub fn keeps<E: Entry>(room: &[E], from: usize) -> bool
     ensures past_end { length room.now ≤ from → IsTrue result }
     ensures kept { IsTrue result → ((k : ℕ) → IfSome (slice_get room.now (from + k)) (λ e. E.eq e (E.stands (from + k)) ≡ true)) }
 {
-    room.iter()
-        .enumerate()
-        .skip(from)
-        .all(|(place, entry)| *entry == E::before(place))
+    for place in from..room.len() {
+        if room[place] != E::before(place) {
+            return false;
+        }
+    }
+    true
 }
 
 // The first `count` entries; then `?` where there are fewer, or where one after them is not as it was before the call.
@@ -76,11 +89,11 @@ impl<E: Entry> fmt::Display for Put<'_, E> {
     fn fmt<W: fmt::Write>(&self, f: &mut fmt::Formatter<W>) -> fmt::Result {
         let room = self.room;
         let Some(entries) = room.get(..self.count) else {
-            return write!(f, "?");
+            return f.write_str("?");
         };
         E::list(entries, f)?;
         if !keeps(room, self.count) {
-            write!(f, "?")?;
+            f.write_str("?")?;
         }
         Ok(())
     }
