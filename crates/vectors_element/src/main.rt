@@ -16,7 +16,8 @@ mod words;
 use element_reading::Step;
 use element_words::Meant;
 use lines::answer::{Canonical, Place, Refusal};
-use lines::fields::{field, octet_list, size_at, word_list};
+use lines::fields::{field, octets_in, size_at, words_in};
+use lines::room::room;
 use lines::vectors::run_file;
 use sorts::Form;
 use spelt::put_spelling;
@@ -24,13 +25,26 @@ use std::alloc::{AllocError, Global};
 use std::io;
 use words::put_element;
 
+// What stands in the rooms before a call: more entries than any element has.
+#[derive(Clone, Copy)]
+struct Before<'a> {
+    words: &'a [u32],
+    octets: &'a [u8],
+}
+
 // What stands at the place of the octets.
-fn answer_reading(alloc: Global, form: Form, line: &[u8]) -> Result<String, AllocError> {
-    let octets = octet_list(alloc, field(line, 0), 64)?;
-    let mut out = String::new(alloc);
-    match element_reading::element_at(form, &octets, size_at(line, 1)) {
+fn answer_reading(
+    alloc: Global,
+    before: Before<'_>,
+    form: Form,
+    line: &[u8],
+) -> Result<String, AllocError> {
+    let mut octets = [0; 64];
+    let n = octets_in(field(line, 0), &mut octets);
+    let mut out = String::with_capacity(alloc, LONGEST)?;
+    match element_reading::element_at(form, &octets[..n], size_at(line, 1)) {
         Step::Element(e, next, canonical) => {
-            put_element(alloc, &mut out, e)?;
+            put_element(alloc, before.words, &mut out, e)?;
             write!(out, "> {} {}", Place(next), Canonical(canonical))?;
         }
         Step::Refused {
@@ -51,16 +65,17 @@ fn answer_reading(alloc: Global, form: Form, line: &[u8]) -> Result<String, Allo
 }
 
 // What the words at the place are, and its spelling in each form. 01: number 10 has the place of its first word, and no count.
-fn answer_words(alloc: Global, line: &[u8]) -> Result<String, AllocError> {
-    let words = word_list(alloc, field(line, 0), 16)?;
+fn answer_words(alloc: Global, before: Before<'_>, line: &[u8]) -> Result<String, AllocError> {
+    let mut words = [0; 16];
+    let n = words_in(field(line, 0), &mut words);
     let place = size_at(line, 1);
-    let mut out = String::new(alloc);
-    match element_words::element_of(&words, place) {
+    let mut out = String::with_capacity(alloc, LONGEST)?;
+    match element_words::element_of(&words[..n], place) {
         Meant::Element(e, next) => {
-            put_element(alloc, &mut out, e)?;
+            put_element(alloc, before.words, &mut out, e)?;
             write!(out, "> {}", Place(next))?;
             for form in [Form::Eight, Form::Seven, Form::Basic] {
-                put_spelling(alloc, &mut out, form, e)?;
+                put_spelling(alloc, before.octets, &mut out, form, e)?;
             }
         }
         Meant::NoElement => {
@@ -94,11 +109,22 @@ const READ: [(&str, Form); 10] = [
 
 fn main(rt: HostRuntime) -> io::Result<()> {
     let alloc = rt.alloc();
+    let words = room(alloc, 16)?;
+    let octets = room(alloc, 64)?;
+    let before = Before {
+        words: &words,
+        octets: &octets,
+    };
     for (name, form) in READ {
-        run_file(&rt, name, LONGEST, |line| answer_reading(alloc, form, line))?;
+        run_file(
+            &rt,
+            name,
+            LONGEST,
+            |line| answer_reading(alloc, before, form, line),
+        )?;
     }
     for name in ["characters.csv", "words.csv"] {
-        run_file(&rt, name, LONGEST, |line| answer_words(alloc, line))?;
+        run_file(&rt, name, LONGEST, |line| answer_words(alloc, before, line))?;
     }
     Ok(())
 }

@@ -1,80 +1,106 @@
-// Whether what puts an element's entries at a place of a room uses the room as it should.
-use lines::room::{Entry, keeps, room};
-use std::alloc::{AllocError, Global};
+// Whether what puts an element's entries at a place of a room uses the room as it should. What stands in the room before a call is lent.
+ghost use Rattle.std.specs.Prelude.{◌≡◌, length};
 
-// More entries than any element has.
-const SIZE: usize = 64;
+use std::alloc::{AllocError, Global};
 
 // What puts an element's entries: its words, or its octets in a form.
 pub(crate) trait Writer {
-    type Entry: Entry;
+    type Entry: Copy + PartialEq;
 
     fn put(&self, room: &mut [Self::Entry], at: usize) -> usize;
 }
 
-// A room, and where the writer ends in its first `size` entries alone, from `at` on.
-fn put_within<W: Writer>(
+// A room, and where the writer ends in it, from entry 1 on.
+pub(crate) fn put_in_room<W: Writer>(
     alloc: Global,
     writer: &W,
-    size: usize,
-    at: usize,
+    before: &[W::Entry],
 ) -> Result<(Vec<W::Entry>, usize), AllocError> {
-    let mut entries = room(alloc, SIZE)?;
-    let end = match entries.as_mut_slice().get_mut(..size) {
-        Some(lent) => writer.put(lent, at),
-        None => 0,
-    };
-    Ok((entries, end))
+    let mut room = Vec::from_slice(alloc, before)?;
+    let end = writer.put(&mut room, 1);
+    Ok((room, end))
 }
 
-// The first `count` entries that are put from entry 1 on, where there is room for more.
-pub(crate) fn entries_put<W: Writer>(
-    alloc: Global,
-    writer: &W,
-    count: usize,
-) -> Result<Vec<W::Entry>, AllocError> {
-    let (entries, _) = put_within(alloc, writer, SIZE, 1)?;
-    entries.iter().copied().skip(1).take(count).collect(alloc)
+// The first `count` entries from entry 1 on.
+pub(crate) fn entries_put<E>(room: &[E], count: usize) -> &[E] {
+    let entries = room.get(1..).unwrap_or_default();
+    entries.get(..count).unwrap_or(entries)
+}
+
+// All entries are looked at, whatever the first is: so many are compared at once.
+fn is_same<E: Copy + PartialEq>(ours: &[E], theirs: &[E]) -> bool {
+    if ours.len() != theirs.len() {
+        return false;
+    }
+    let mut same = true;
+    for place in 0..ours.len() {
+        same &= ours[place] == theirs[place];
+    }
+    same
+}
+
+// Whether just these stand from entry 1 on, where the writer ended at `end`, and the other entries are as before.
+pub(crate) fn holds<E: Copy + PartialEq>(
+    before: &[E],
+    room: &[E],
+    end: usize,
+    wanted: &[E],
+) -> bool {
+    match (room.split_at_checked(end), before.split_at_checked(end)) {
+        (Some(([first, put @ ..], after)), Some(([first_before, ..], after_before))) => {
+            *first == *first_before && is_same(put, wanted) && is_same(after, after_before)
+        }
+        _ => false,
+    }
 }
 
 // At that place of so many entries nothing is put.
 fn refuses<W: Writer>(
-    alloc: Global,
     writer: &W,
+    before: &[W::Entry],
+    room: &mut [W::Entry],
     size: usize,
     at: usize,
-) -> Result<bool, AllocError> {
-    let (entries, end) = put_within(alloc, writer, size, at)?;
-    Ok(end == at && keeps(&entries, 0))
+) -> bool
+    requires { length room.old ≡ length before.now }
+{
+    room.copy_from_slice(before);
+    match room.get_mut(..size) {
+        Some(lent) => writer.put(lent, at) == at && is_same(room, before),
+        None => false,
+    }
 }
 
 // From entry 1 of so many on just these are put.
 fn puts<W: Writer>(
-    alloc: Global,
     writer: &W,
+    before: &[W::Entry],
+    room: &mut [W::Entry],
     size: usize,
     wanted: &[W::Entry],
-) -> Result<bool, AllocError> {
-    let (entries, end) = put_within(alloc, writer, size, 1)?;
-    let Some((before, rest)) = entries.split_at_checked(1) else {
-        return Ok(false);
-    };
-    let is_put = keeps(before, 0) && rest.starts_with(wanted) && keeps(&entries, end);
-    Ok(is_put && end == 1 + wanted.len())
+) -> bool
+    requires { length room.old ≡ length before.now }
+{
+    room.copy_from_slice(before);
+    match room.get_mut(..size) {
+        Some(lent) => {
+            let end = writer.put(lent, 1);
+            holds(before, room, end, wanted)
+        }
+        None => false,
+    }
 }
 
-// Just these are put where there is room for more, and where there is for them alone; none with one entry too few, or where the place is
-// far past the room.
+// Just these are put where there is room for them alone; none with one entry too few, or where the place is far past the room.
 pub(crate) fn uses_rooms<W: Writer>(
     alloc: Global,
     writer: &W,
+    before: &[W::Entry],
     wanted: &[W::Entry],
 ) -> Result<bool, AllocError> {
+    let mut room = Vec::from_slice(alloc, before)?;
     let size = wanted.len();
-    Ok(
-        puts(alloc, writer, SIZE, wanted)?
-            && puts(alloc, writer, size.saturating_add(1), wanted)?
-            && (size == 0 || refuses(alloc, writer, size, 1)?)
-            && refuses(alloc, writer, SIZE, usize::MAX)?,
-    )
+    let fits = puts(writer, before, &mut room, size.saturating_add(1), wanted);
+    let is_refused = size == 0 || refuses(writer, before, &mut room, size, 1);
+    Ok(fits && is_refused && refuses(writer, before, &mut room, before.len(), usize::MAX))
 }

@@ -1,5 +1,5 @@
 // An element's spelling as text.
-use crate::rooms::{Writer, entries_put, uses_rooms};
+use crate::rooms::{Writer, entries_put, holds, put_in_room, uses_rooms};
 use element_words::Element;
 use lines::answer::Octets;
 use sorts::Form;
@@ -22,19 +22,20 @@ impl Writer for Spelling {
 // A space, and the octets that are put, or `-` for none; then `?` where there are more or fewer, or a room is not used as it should be.
 pub(crate) fn put_spelling(
     alloc: Global,
+    before: &[u8],
     out: &mut String,
     form: Form,
     element: Element,
 ) -> Result<(), AllocError> {
     let spelling = Spelling { form, element };
-    let size = element_spelling::spelt_size(form, element);
-    let octets = entries_put(alloc, &spelling, size)?;
+    let (room, end) = put_in_room(alloc, &spelling, before)?;
+    let octets = entries_put(&room, element_spelling::spelt_size(form, element));
     if octets.is_empty() {
         write!(out, " -")?;
     } else {
-        write!(out, " {}", Octets(&octets))?;
+        write!(out, " {}", Octets(octets))?;
     }
-    if !uses_rooms(alloc, &spelling, &octets)? {
+    if !holds(before, &room, end, octets) || !uses_rooms(alloc, &spelling, before, octets)? {
         write!(out, "?")?;
     }
     Ok(())

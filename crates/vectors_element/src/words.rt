@@ -1,5 +1,5 @@
 // An element's parts as text, and whether the words that `put_words` puts are these parts.
-use crate::rooms::{Writer, uses_rooms};
+use crate::rooms::{Writer, holds, put_in_room, uses_rooms};
 use element_words::Element;
 use lines::answer::Word;
 use std::alloc::{AllocError, Global};
@@ -40,16 +40,25 @@ fn has_zeros_past(e: Element) -> bool {
     }
 }
 
+// Whether they are the words that are put, and so many, and a room is used as it should be.
+fn is_put(alloc: Global, before: &[u32], e: Element, words: &[u32]) -> Result<bool, AllocError> {
+    let (room, end) = put_in_room(alloc, &Words(e), before)?;
+    let is_whole = element_words::words_in(e) == words.len() && has_zeros_past(e);
+    Ok(is_whole && holds(before, &room, end, words) && uses_rooms(alloc, &Words(e), before, words)?)
+}
+
 // The words, a space after each; then `?` where the element's words are others.
-pub(crate) fn put_element(alloc: Global, out: &mut String, e: Element) -> Result<(), AllocError> {
+pub(crate) fn put_element(
+    alloc: Global,
+    before: &[u32],
+    out: &mut String,
+    e: Element,
+) -> Result<(), AllocError> {
     let words = words_of(alloc, e)?;
     for word in words.iter() {
         write!(out, "{} ", Word(*word))?;
     }
-    if element_words::words_in(e) != words.len()
-        || !has_zeros_past(e)
-        || !uses_rooms(alloc, &Words(e), &words)?
-    {
+    if !is_put(alloc, before, e, &words)? {
         write!(out, "?")?;
     }
     Ok(())
