@@ -1,4 +1,5 @@
-// The functions of `text`, called with a part of a larger room, and what they answer as text.
+// The functions of `text`, called with a part of a larger room, and what they answer as text. Of that room they are given what stands in it
+// before a call.
 use element_reading::Step;
 use lines::answer::{Canonical, Numbers, Place, Reading, Refusal, unasked, written};
 use lines::fields::{field, nth_part, number_at, number_in, octet_list, size_at, word_list};
@@ -18,10 +19,14 @@ fn said<E: Entry>(alloc: Global, reading: ReadAnswer, room: &[E]) -> Result<Stri
 }
 
 // The text's answer, and the words that it puts.
-pub(crate) fn answer_reading(alloc: Global, line: &[u8]) -> Result<String, AllocError> {
+pub(crate) fn answer_reading(
+    alloc: Global,
+    before: &[u32],
+    line: &[u8],
+) -> Result<String, AllocError> {
     let form = number_at(line, 0);
     let octets = octet_list(alloc, field(line, 1), 512)?;
-    let mut words = room(alloc, 512)?;
+    let mut words = Vec::from_slice(alloc, before)?;
     let reading = match words.as_mut_slice().get_mut(..size_at(line, 2)) {
         Some(lent) => text::read(form, &octets, lent),
         None => unread(),
@@ -30,11 +35,11 @@ pub(crate) fn answer_reading(alloc: Global, line: &[u8]) -> Result<String, Alloc
 }
 
 // One element's answer, and the words that it puts.
-pub(crate) fn answer_one(alloc: Global, line: &[u8]) -> Result<String, AllocError> {
+pub(crate) fn answer_one(alloc: Global, before: &[u32], line: &[u8]) -> Result<String, AllocError> {
     let form = number_at(line, 0);
     let octets = octet_list(alloc, field(line, 1), 512)?;
     let at = size_at(line, 2);
-    let mut words = room(alloc, 512)?;
+    let mut words = Vec::from_slice(alloc, before)?;
     let reading = match words.as_mut_slice().get_mut(..size_at(line, 3)) {
         Some(lent) => text::read_one(form, &octets, at, lent),
         None => unread(),
@@ -43,10 +48,14 @@ pub(crate) fn answer_one(alloc: Global, line: &[u8]) -> Result<String, AllocErro
 }
 
 // The words' answer, and the octets that it puts.
-pub(crate) fn answer_writing(alloc: Global, line: &[u8]) -> Result<String, AllocError> {
+pub(crate) fn answer_writing(
+    alloc: Global,
+    before: &[u8],
+    line: &[u8],
+) -> Result<String, AllocError> {
     let form = number_at(line, 0);
     let words = word_list(alloc, field(line, 1), 512)?;
-    let mut octets = room(alloc, 1024)?;
+    let mut octets = Vec::from_slice(alloc, before)?;
     let answer = match octets.as_mut_slice().get_mut(..size_at(line, 2)) {
         Some(lent) => text::write(form, &words, lent),
         None => unasked(),
@@ -57,11 +66,15 @@ pub(crate) fn answer_writing(alloc: Global, line: &[u8]) -> Result<String, Alloc
 }
 
 // The conversion's answer, and the octets that it puts. The two forms stand as `1 3`.
-pub(crate) fn answer_converting(alloc: Global, line: &[u8]) -> Result<String, AllocError> {
+pub(crate) fn answer_converting(
+    alloc: Global,
+    before: &[u8],
+    line: &[u8],
+) -> Result<String, AllocError> {
     let source = number_in(nth_part(field(line, 0), b' ', 0));
     let target = number_in(nth_part(field(line, 0), b' ', 1));
     let octets = octet_list(alloc, field(line, 1), 512)?;
-    let mut converted = room(alloc, 1024)?;
+    let mut converted = Vec::from_slice(alloc, before)?;
     let reading = match converted.as_mut_slice().get_mut(..size_at(line, 2)) {
         Some(lent) => text::convert(source, target, &octets, lent),
         None => unread(),

@@ -16,6 +16,7 @@ mod calls;
 mod peers;
 
 use calls::{answer_converting, answer_element, answer_one, answer_reading, answer_writing};
+use lines::room::room;
 use lines::vectors::run_file;
 use peers::compare_file;
 use std::io;
@@ -34,19 +35,44 @@ const LONGEST: usize = 8192;
 
 fn main(rt: HostRuntime) -> io::Result<()> {
     let alloc = rt.alloc();
+    // what stands in the rooms before a call
+    let words = room::<u32>(alloc, 512)?;
+    let words = words.as_slice();
+    let octets = room::<u8>(alloc, 1024)?;
+    let octets = octets.as_slice();
     for name in ["read_1.csv", "read_2.csv", "read_3.csv"] {
-        run_file(&rt, name, LONGEST, |line| answer_reading(alloc, line))?;
+        run_file(
+            &rt,
+            name,
+            LONGEST,
+            |line| answer_reading(alloc, words, line),
+        )?;
     }
     for name in ["write_1.csv", "write_2.csv", "write_3.csv"] {
-        run_file(&rt, name, LONGEST, |line| answer_writing(alloc, line))?;
+        run_file(
+            &rt,
+            name,
+            LONGEST,
+            |line| answer_writing(alloc, octets, line),
+        )?;
     }
     for name in CONVERTED {
-        run_file(&rt, name, LONGEST, |line| answer_converting(alloc, line))?;
+        run_file(
+            &rt,
+            name,
+            LONGEST,
+            |line| answer_converting(alloc, octets, line),
+        )?;
     }
     run_file(&rt, "element.csv", LONGEST, |line| {
         answer_element(alloc, line)
     })?;
-    run_file(&rt, "into.csv", LONGEST, |line| answer_one(alloc, line))?;
+    run_file(
+        &rt,
+        "into.csv",
+        LONGEST,
+        |line| answer_one(alloc, words, line),
+    )?;
     compare_file(&rt, "glibc_1.csv", 1)?;
     compare_file(&rt, "glibc_3.csv", 3)
 }
