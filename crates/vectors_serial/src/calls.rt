@@ -1,7 +1,9 @@
-// The functions of `serial`, called as a line says, with a part of a larger room, and what they answer as text.
+// The functions of `serial`, called as a line says, with a part of a larger room, and what they answer as text. Of that room they are given
+// what stands in it before a call.
+use crate::LONGEST;
 use lines::answer::{Numbers, Octets, Place, unasked};
 use lines::fields::{field, nth_part, number_at, number_in, octet_list, octets_in, size_at, split};
-use lines::room::{Put, room};
+use lines::room::Put;
 use run::Answer;
 use serial::{Carry, Fed};
 use std::alloc::{AllocError, Global};
@@ -87,6 +89,7 @@ fn carry_in(line: &[u8]) -> Carry {
 // One call: piece, room, and whether the page ends. Its outcome is put, and the carry that it leaves is answered.
 fn put_call(
     alloc: Global,
+    before: &[u32],
     out: &mut String,
     carry: Carry,
     call: &[u8],
@@ -94,7 +97,7 @@ fn put_call(
     let piece = octet_list(alloc, nth_part(call, b' ', 0), 256)?;
     let size = number_in(nth_part(call, b' ', 1)) as usize;
     let ended = number_in(nth_part(call, b' ', 2)) != 0;
-    let mut words = room(alloc, 256)?;
+    let mut words = Vec::from_slice(alloc, before)?;
     let fed = match words.as_mut_slice().get_mut(..size) {
         Some(lent) => carry.feed(&piece, ended, lent),
         None => Fed {
@@ -109,30 +112,42 @@ fn put_call(
     Ok(fed.carry)
 }
 
-// The calls one after another, each on the carry that the one before it left.
+// The calls one after another, each on the carry that the one before it left. Once the answer is cut, none that is left shows.
 fn put_calls(
     alloc: Global,
+    before: &[u32],
     out: &mut String,
     mut carry: Carry,
     calls: &[u8],
 ) -> Result<(), AllocError> {
     for call in split(calls, b';') {
-        carry = put_call(alloc, out, carry, call)?;
+        if LONGEST <= out.len() {
+            break;
+        }
+        carry = put_call(alloc, before, out, carry, call)?;
     }
     Ok(())
 }
 
 // From the form that the page is made fresh with: making fresh is the first outcome.
-pub(crate) fn answer_fresh(alloc: Global, line: &[u8]) -> Result<String, AllocError> {
+pub(crate) fn answer_fresh(
+    alloc: Global,
+    before: &[u32],
+    line: &[u8],
+) -> Result<String, AllocError> {
     let fed = Carry::fresh(number_at(line, 0));
     let mut out = format!(in alloc; "{}", Outcome { fed, words: &[] })?;
-    put_calls(alloc, &mut out, fed.carry, field(line, 1))?;
+    put_calls(alloc, before, &mut out, fed.carry, field(line, 1))?;
     Ok(out)
 }
 
 // From the fields of a carry.
-pub(crate) fn answer_carried(alloc: Global, line: &[u8]) -> Result<String, AllocError> {
+pub(crate) fn answer_carried(
+    alloc: Global,
+    before: &[u32],
+    line: &[u8],
+) -> Result<String, AllocError> {
     let mut out = String::new(alloc);
-    put_calls(alloc, &mut out, carry_in(line), field(line, 9))?;
+    put_calls(alloc, before, &mut out, carry_in(line), field(line, 9))?;
     Ok(out)
 }

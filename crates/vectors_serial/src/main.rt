@@ -13,6 +13,7 @@
 mod calls;
 
 use calls::{answer_carried, answer_fresh};
+use lines::room::room;
 use lines::vectors::run_file;
 use std::io;
 
@@ -38,11 +39,19 @@ const LONGEST: usize = 16384;
 
 fn main(rt: HostRuntime) -> io::Result<()> {
     let alloc = rt.alloc();
+    // what stands in the room before a call
+    let words = room::<u32>(alloc, 256)?;
+    let words = words.as_slice();
     for name in FRESH {
-        run_file(&rt, name, LONGEST, |line| answer_fresh(alloc, line))?;
+        run_file(&rt, name, LONGEST, |line| answer_fresh(alloc, words, line))?;
     }
     for name in ["carry.csv", "respelled.csv"] {
-        run_file(&rt, name, LONGEST, |line| answer_carried(alloc, line))?;
+        run_file(
+            &rt,
+            name,
+            LONGEST,
+            |line| answer_carried(alloc, words, line),
+        )?;
     }
     Ok(())
 }

@@ -13,7 +13,8 @@
 mod calls;
 mod runs;
 
-use calls::{answer_header, answer_page, answer_reading, answer_writing};
+use calls::{MOST, answer_header, answer_page, answer_reading, answer_writing};
+use lines::room::room;
 use lines::vectors::run_file;
 use std::io;
 
@@ -22,10 +23,15 @@ const LONGEST: usize = 8192;
 
 fn main(rt: HostRuntime) -> io::Result<()> {
     let alloc = rt.alloc();
-    let read = |line: &[u8]| answer_reading(alloc, false, line);
+    // what stands in the rooms before a call
+    let words = room::<u32>(alloc, MOST)?;
+    let words = words.as_slice();
+    let octets = room::<u8>(alloc, MOST)?;
+    let octets = octets.as_slice();
+    let read = |line: &[u8]| answer_reading(alloc, words, false, line);
     let page = |line: &[u8]| answer_page(alloc, false, line);
     let header = |line: &[u8]| answer_header(alloc, false, line);
-    let write = |line: &[u8]| answer_writing(alloc, false, line);
+    let write = |line: &[u8]| answer_writing(alloc, octets, false, line);
     run_file(&rt, "read_1.csv", LONGEST, read)?;
     run_file(&rt, "read_2.csv", LONGEST, read)?;
     run_file(&rt, "read_3.csv", LONGEST, read)?;
@@ -40,12 +46,12 @@ fn main(rt: HostRuntime) -> io::Result<()> {
     run_file(&rt, "write_3.csv", LONGEST, write)?;
     run_file(&rt, "write_refused.csv", LONGEST, write)?;
     run_file(&rt, "long_read.csv", LONGEST, |line| {
-        answer_reading(alloc, true, line)
+        answer_reading(alloc, words, true, line)
     })?;
     run_file(&rt, "long_page.csv", LONGEST, |line| {
         answer_page(alloc, true, line)
     })?;
     run_file(&rt, "long_write.csv", LONGEST, |line| {
-        answer_writing(alloc, true, line)
+        answer_writing(alloc, octets, true, line)
     })
 }
