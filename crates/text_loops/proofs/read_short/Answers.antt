@@ -3,7 +3,7 @@
 use mathlib.Core.Path.{sym, ◌∙◌}
 use native.Mathlib.Omega.{arith}
 use lib.Seq.{length-take-le}
-use Rattle.text_loops.proofs.Fronts.{read_straight, not_wanted, wanted_first, wanted_copied}
+use Rattle.text_loops.proofs.Fronts.{read_straight, wanted_first, wanted_copied}
 use Rattle.text_loops.proofs.read_short.Goals as goal
 
 pub returns-then-text-words : goal.returns-then-text-words
