@@ -1,5 +1,5 @@
 // Whether what puts an element's entries at a place of a room uses the room as it should. What stands in the room before a call is lent.
-ghost use Rattle.std.specs.Prelude.{◌≡◌, length};
+ghost use Rattle.std.specs.Prelude.{◌≡◌, length, vec_len, IfOk};
 
 use std::alloc::{AllocError, Global};
 
@@ -15,7 +15,9 @@ pub(crate) fn put_in_room<W: Writer>(
     alloc: Global,
     writer: &W,
     before: &[W::Entry],
-) -> Result<(Vec<W::Entry>, usize), AllocError> {
+) -> Result<(Vec<W::Entry>, usize), AllocError>
+    ensures { IfOk result (λ put. vec_len put.0 ≡ length before.now) }
+{
     let mut room = Vec::from_slice(alloc, before)?;
     let end = writer.put(&mut room, 1);
     Ok((room, end))
@@ -93,14 +95,15 @@ fn puts<W: Writer>(
 
 // Just these are put where there is room for them alone; none with one entry too few, or where the place is far past the room.
 pub(crate) fn uses_rooms<W: Writer>(
-    alloc: Global,
     writer: &W,
     before: &[W::Entry],
+    room: &mut [W::Entry],
     wanted: &[W::Entry],
-) -> Result<bool, AllocError> {
-    let mut room = Vec::from_slice(alloc, before)?;
+) -> bool
+    requires { length room.old ≡ length before.now }
+{
     let size = wanted.len();
-    let fits = puts(writer, before, &mut room, size.saturating_add(1), wanted);
-    let is_refused = size == 0 || refuses(writer, before, &mut room, size, 1);
-    Ok(fits && is_refused && refuses(writer, before, &mut room, before.len(), usize::MAX))
+    puts(writer, before, room, size.saturating_add(1), wanted)
+        && (size == 0 || refuses(writer, before, room, size, 1))
+        && refuses(writer, before, room, before.len(), usize::MAX)
 }

@@ -35,7 +35,8 @@ pub(crate) fn put_spelling(
     } else {
         write!(out, " {}", Octets(octets))?;
     }
-    if !holds(before, &room, end, octets) || !uses_rooms(alloc, &spelling, before, octets)? {
+    let mut other = Vec::from_slice(alloc, before)?;
+    if !holds(before, &room, end, octets) || !uses_rooms(&spelling, before, &mut other, octets) {
         write!(out, "?")?;
     }
     Ok(())

@@ -42,9 +42,10 @@ fn has_zeros_past(e: Element) -> bool {
 
 // Whether they are the words that are put, and so many, and a room is used as it should be.
 fn is_put(alloc: Global, before: &[u32], e: Element, words: &[u32]) -> Result<bool, AllocError> {
-    let (room, end) = put_in_room(alloc, &Words(e), before)?;
+    let (mut room, end) = put_in_room(alloc, &Words(e), before)?;
     let is_whole = element_words::words_in(e) == words.len() && has_zeros_past(e);
-    Ok(is_whole && holds(before, &room, end, words) && uses_rooms(alloc, &Words(e), before, words)?)
+    let holds_them = holds(before, &room, end, words);
+    Ok(is_whole && holds_them && uses_rooms(&Words(e), before, &mut room, words))
 }
 
 // The words, a space after each; then `?` where the element's words are others.
