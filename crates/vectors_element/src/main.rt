@@ -17,7 +17,7 @@ use element_reading::Step;
 use element_words::Meant;
 use lines::answer::{Canonical, Place, Refusal};
 use lines::fields::{field, octets_in, size_at, words_in};
-use lines::room::room;
+use lines::room::fill;
 use lines::vectors::run_file;
 use sorts::Form;
 use spelt::put_spelling;
@@ -28,8 +28,8 @@ use words::put_element;
 // What stands in the rooms before a call: more entries than any element has.
 #[derive(Clone, Copy)]
 struct Before<'a> {
-    words: &'a [u32],
-    octets: &'a [u8],
+    words: &'a [u32; 16],
+    octets: &'a [u8; 64],
 }
 
 // What stands at the place of the octets.
@@ -75,7 +75,7 @@ fn answer_words(alloc: Global, before: Before<'_>, line: &[u8]) -> Result<String
             put_element(alloc, before.words, &mut out, e)?;
             write!(out, "> {}", Place(next))?;
             for form in [Form::Eight, Form::Seven, Form::Basic] {
-                put_spelling(alloc, before.octets, &mut out, form, e)?;
+                put_spelling(before.octets, &mut out, form, e)?;
             }
         }
         Meant::NoElement => {
@@ -109,8 +109,10 @@ const READ: [(&str, Form); 10] = [
 
 fn main(rt: HostRuntime) -> io::Result<()> {
     let alloc = rt.alloc();
-    let words = room(alloc, 16)?;
-    let octets = room(alloc, 64)?;
+    let mut words = [0; 16];
+    fill(&mut words);
+    let mut octets = [0; 64];
+    fill(&mut octets);
     let before = Before {
         words: &words,
         octets: &octets,

@@ -1,26 +1,11 @@
 // Whether what puts an element's entries at a place of a room uses the room as it should. What stands in the room before a call is lent.
-ghost use Rattle.std.specs.Prelude.{◌≡◌, length, vec_len, IfOk};
-
-use std::alloc::{AllocError, Global};
+ghost use Rattle.std.specs.Prelude.{◌≡◌, length};
 
 // What puts an element's entries: its words, or its octets in a form.
 pub(crate) trait Writer {
     type Entry: Copy + PartialEq;
 
     fn put(&self, room: &mut [Self::Entry], at: usize) -> usize;
-}
-
-// A room, and where the writer ends in it, from entry 1 on.
-pub(crate) fn put_in_room<W: Writer>(
-    alloc: Global,
-    writer: &W,
-    before: &[W::Entry],
-) -> Result<(Vec<W::Entry>, usize), AllocError>
-    ensures { IfOk result (λ put. vec_len put.0 ≡ length before.now) }
-{
-    let mut room = Vec::from_slice(alloc, before)?;
-    let end = writer.put(&mut room, 1);
-    Ok((room, end))
 }
 
 // The first `count` entries from entry 1 on.

@@ -1,5 +1,5 @@
 // An element's parts as text, and whether the words that `put_words` puts are these parts.
-use crate::rooms::{Writer, holds, put_in_room, uses_rooms};
+use crate::rooms::{Writer, holds, uses_rooms};
 use element_words::Element;
 use lines::answer::Word;
 use std::alloc::{AllocError, Global};
@@ -41,17 +41,18 @@ fn has_zeros_past(e: Element) -> bool {
 }
 
 // Whether they are the words that are put, and so many, and a room is used as it should be.
-fn is_put(alloc: Global, before: &[u32], e: Element, words: &[u32]) -> Result<bool, AllocError> {
-    let (mut room, end) = put_in_room(alloc, &Words(e), before)?;
+fn is_put(before: &[u32; 16], e: Element, words: &[u32]) -> bool {
+    let mut room = *before;
+    let end = Words(e).put(&mut room, 1);
     let is_whole = element_words::words_in(e) == words.len() && has_zeros_past(e);
     let holds_them = holds(before, &room, end, words);
-    Ok(is_whole && holds_them && uses_rooms(&Words(e), before, &mut room, words))
+    is_whole && holds_them && uses_rooms(&Words(e), before, &mut room, words)
 }
 
 // The words, a space after each; then `?` where the element's words are others.
 pub(crate) fn put_element(
     alloc: Global,
-    before: &[u32],
+    before: &[u32; 16],
     out: &mut String,
     e: Element,
 ) -> Result<(), AllocError> {
@@ -59,7 +60,7 @@ pub(crate) fn put_element(
     for word in words.iter() {
         write!(out, "{} ", Word(*word))?;
     }
-    if !is_put(alloc, before, e, &words)? {
+    if !is_put(before, e, &words) {
         write!(out, "?")?;
     }
     Ok(())
